@@ -1,0 +1,6 @@
+pub mod Counts
+pub mod Calls
+pub mod Shelf
+pub mod Sink
+pub mod MemoryShelf
+pub mod MemorySink

@@ -1,0 +1,144 @@
+use super::*;
+use crate::streams::{read_front, write_whole};
+use hart_words::WantOfMemory;
+use std::alloc::Global;
+use std::fs;
+use std::io::{Read, Write};
+use std::test::Fail;
+
+// A writer that takes one byte at a time, and then nothing.
+#[derive(Drop)]
+struct Narrow {
+    room: usize,
+}
+
+impl Write for Narrow {
+    fn write(&mut self, buf: &[u8]) -> std::io::Result<usize> {
+        if self.room == 0 || buf.is_empty() {
+            return Ok(0);
+        }
+        self.room -= 1;
+        Ok(1)
+    }
+
+    fn flush(&mut self) -> std::io::Result<()> {
+        Ok(())
+    }
+}
+
+// A reader that gives one byte at a time, and then nothing.
+#[derive(Drop)]
+struct Slow {
+    left: usize,
+}
+
+impl Read for Slow {
+    fn read(&mut self, buf: &mut [u8]) -> std::io::Result<usize> {
+        if self.left == 0 || buf.is_empty() {
+            return Ok(0);
+        }
+        buf[0] = 7;
+        self.left -= 1;
+        Ok(1)
+    }
+}
+
+#[test]
+fn streams_stop_where_nothing_is_taken_or_given(rt: HostRuntime) {
+    assert!(rt; write_whole(&mut Narrow { room: 5 }, b"hello"));
+    assert!(rt; !write_whole(&mut Narrow { room: 4 }, b"hello"));
+    for (left, most, want) in [(5000, 4100, 4100), (3, 10, 3), (3, 0, 0)] {
+        match read_front(rt.alloc(), &mut Slow { left }, most) {
+            Ok(bytes) => assert_eq!(rt; bytes.len(), want),
+            Err(_) => assert!(rt; false),
+        }
+    }
+}
+
+fn fetched(
+    shelf: &mut impl Shelf,
+    alloc: Global,
+    name: &str,
+    limit: u64,
+) -> Result<usize, ShelfFault> {
+    if limit > MOST_FETCHED {
+        return Err(ShelfFault::Memory);
+    }
+    match shelf.fetch(alloc, name, limit) {
+        Ok(bytes) => Ok(bytes.len()),
+        Err(fault) => Err(fault),
+    }
+}
+
+// Files of one byte less than what a fetch gives, as many, and one more; none, and a folder.
+#[test]
+fn files_of_the_system(rt: HostRuntime) -> Result<(), Fail> {
+    fs::write(&rt, "nine", b"123456789")?;
+    fs::create_dir(&rt, "folder")?;
+    let mut shelf = FileShelf::new(&rt);
+    for (name, limit, want) in [
+        ("nine", 9, Ok(9)),
+        ("nine", 8, Ok(9)),
+        ("nine", 7, Ok(8)),
+        ("ten", 9, Err(ShelfFault::Absent)),
+        ("folder", 9, Err(ShelfFault::Failed)),
+    ] {
+        assert_eq!(rt;
+            fetched(&mut shelf, rt.alloc(), name, limit),
+            want,
+            "{name} {limit}"
+        );
+    }
+    Ok(())
+}
+
+#[test]
+fn files_in_memory(rt: HostRuntime) -> Result<(), Fail> {
+    let mut shelf = MemoryShelf::new(rt.alloc());
+    shelf.hold("a.img", b"first")?;
+    shelf.hold("b.img", b"second")?;
+    shelf.hold("a.img", b"new")?;
+    shelf.fail_at(3)?;
+    for (name, want) in [
+        ("a.img", Ok(3)),
+        ("c.img", Err(ShelfFault::Absent)),
+        ("b.img", Err(ShelfFault::Failed)),
+        ("b.img", Ok(5)),
+    ] {
+        assert_eq!(rt; fetched(&mut shelf, rt.alloc(), name, 4), want, "{name}");
+    }
+    Ok(())
+}
+
+#[test]
+fn bytes_in_memory(rt: HostRuntime) -> Result<(), WantOfMemory> {
+    let mut sink = MemorySink::new(rt.alloc(), 8)?;
+    sink.fail_at(2)?;
+    for (piece, want) in [
+        ("one", Ok(())),
+        ("two", Err(SinkFault::Failed)),
+        ("three", Ok(())),
+        ("four", Err(SinkFault::Failed)),
+    ] {
+        assert_eq!(rt; sink.put(piece.as_bytes()), want, "{piece}");
+    }
+    assert_eq!(rt; sink.bytes(), b"onethree".as_slice());
+    Ok(())
+}
+
+#[test]
+fn nothing_is_kept_and_standard_output_takes_all(rt: HostRuntime) {
+    assert_eq!(rt; Quiet::new().put(b"gone"), Ok(()));
+    assert_eq!(rt; StdSink::new(&rt).put(b"written\n"), Ok(()));
+}
+
+#[test]
+fn words_in_order(rt: HostRuntime) -> Result<(), WantOfMemory> {
+    let mut words = Words::new(rt.alloc());
+    words.push("run")?;
+    words.push("first.bin")?;
+    assert_eq!(rt; words.len(), 2);
+    assert_eq!(rt; words.get(1), "first.bin");
+    assert_eq!(rt; words.as_slice().len(), 2);
+    Ok(())
+}
