@@ -1,0 +1,4 @@
+mod Lists
+mod Ends
+mod Calm
+mod Causes

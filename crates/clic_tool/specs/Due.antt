@@ -1,0 +1,63 @@
+-- The text and the status that are due.
+use Rattle.std.specs.Prelude.{ℕ, ◌+◌, List, [], ◌∷◌, length, nat_lt, if◌then◌else◌, Option, Some, None}
+use Rattle.board_outside.specs.declared.shelf.ShelfFault.{ShelfFault}
+use Rattle.board_outside.specs.declared.shelf.ShelfFault.TheVariants.{Absent as absent, Failed as failed, Memory as memory}
+use Rattle.hart_board.specs.State.{State, reset, with_byte}
+use Rattle.hart_board.specs.Run.{run_of}
+use Rattle.hart_board.specs.Report.{report}
+use Rattle.hart_board.specs.declared.run_end.RunEnd.{RunEnd}
+use Rattle.hart_board.specs.declared.run_end.RunEnd.TheVariants.{Halted, BudgetSpent as budget_spent, NotBuilt as not_built, SinkFailed as sink_failed}
+use Rattle.clic_tool.specs.Lines.{usage_line, too_large_line, absent_line, failed_line}
+use Rattle.clic_tool.specs.declared.status.Status.{Status}
+use Rattle.clic_tool.specs.declared.status.Status.TheVariants.{Done, BudgetSpent, Usage, Absent, ShelfFailed, Refused, SinkFailed, Memory, NotBuilt}
+
+-- the text that is to be written, and the status
+pub record Due : Type 0 where
+  pub text : List ℕ
+  pub status : Status
+
+-- an image has at most so many bytes
+abbrev pub image_limit : ℕ
+image_limit = 0x1_0000
+
+-- words that are no command
+abbrev pub usage_due : Due
+usage_due = record { text = usage_line; status = Usage }
+
+-- the board with these bytes from an address on
+unfoldable pub placed : ℕ → List ℕ → State → State
+placed at [] s = s
+placed at (b ∷ bs) s = placed (at + 1) bs (with_byte s at b)
+
+-- the board with an image at address 0
+abbrev pub loaded : List ℕ → State
+loaded image = placed 0 image reset
+
+-- the status of a run that ended so
+abbrev pub status_of : RunEnd → Status
+status_of (Halted code steps) = Done
+status_of budget_spent = BudgetSpent
+status_of (not_built word steps) = NotBuilt
+status_of sink_failed = SinkFailed
+
+-- a run that ended so, in that state
+abbrev pub run_due : ℕ → RunEnd × State → Due
+run_due bound r = record { text = report bound r.0 r.1; status = status_of r.0 }
+
+-- a run of an image of these bytes
+unfoldable pub image_due : List ℕ → ℕ → Due
+image_due image bound =
+    if nat_lt image_limit (length image)
+    then record { text = too_large_line; status = Refused }
+    else run_due bound (run_of bound (loaded image))
+
+-- a run of the file of that name, as the shelf holds it
+abbrev pub held_due : List ℕ → Option (List ℕ) → ℕ → Due
+held_due name None bound = record { text = absent_line name; status = Absent }
+held_due name (Some image) bound = image_due image bound
+
+-- a file that wasn't given
+abbrev pub fault_due : List ℕ → ShelfFault → Due
+fault_due name absent = record { text = absent_line name; status = Absent }
+fault_due name failed = record { text = failed_line name; status = ShelfFailed }
+fault_due name memory = record { text = []; status = Memory }

@@ -1,0 +1,43 @@
+// The command of the board: `clic_tool run FILE BOUND`.
+#![tactic(auto)]
+
+mod command;
+mod status;
+#[cfg(test)]
+mod tests;
+mod words;
+mod writing;
+
+use board_outside::{FileShelf, StdSink, Words};
+use command::clic_main;
+use std::process::ExitCode;
+use std::{env, io};
+
+// The words find no memory.
+const WORDS_WANT_MEMORY: u8 = 7;
+
+// The words can't be read for another cause.
+const UNREAD: u8 = 12;
+
+fn main(rt: HostRuntime) -> ExitCode {
+    let mut words = Words::new(rt.alloc());
+    let args = match env::args(&rt) {
+        Ok(args) => args,
+        Err(e) => {
+            return ExitCode::from(if e.kind() == io::ErrorKind::OutOfMemory {
+                WORDS_WANT_MEMORY
+            } else {
+                UNREAD
+            });
+        }
+    };
+    for word in args.skip(1) {
+        if words.push(word.as_str()).is_err() {
+            return ExitCode::from(WORDS_WANT_MEMORY);
+        }
+    }
+    let mut shelf = FileShelf::new(&rt);
+    let mut out = StdSink::new(&rt);
+    let status = clic_main(rt.alloc(), &words, &mut shelf, &mut out);
+    ExitCode::from(status.code())
+}

@@ -1,0 +1,208 @@
+use super::*;
+use crate::status::Status;
+use board_outside::{MemoryShelf, MemorySink};
+use hart_words::WantOfMemory;
+use std::alloc::Global;
+use std::test::Fail;
+
+// addi a0, zero, 5; lui t0, 0x10003; sw a0, 0(t0)
+const HALTS: [u8; 12] = [
+    0x13, 0x05, 0x50, 0x00, 0xB7, 0x32, 0x00, 0x10, 0x23, 0xA0, 0xA2, 0x00,
+];
+
+// Its report: the end, the steps, pc and the registers, a line each.
+const REPORT: &[u8] = b"end halt 00000005\nsteps 3\npc 0000000C\nx1 00000000\n\
+x2 00000000\n\
+x3 00000000\n\
+x4 00000000\n\
+x5 10003000\n\
+x6 00000000\n\
+x7 00000000\n\
+x8 00000000\n\
+x9 00000000\n\
+x10 00000005\n\
+x11 00000000\n\
+x12 00000000\n\
+x13 00000000\n\
+x14 00000000\n\
+x15 00000000\n\
+x16 00000000\n\
+x17 00000000\n\
+x18 00000000\n\
+x19 00000000\n\
+x20 00000000\n\
+x21 00000000\n\
+x22 00000000\n\
+x23 00000000\n\
+x24 00000000\n\
+x25 00000000\n\
+x26 00000000\n\
+x27 00000000\n\
+x28 00000000\n\
+x29 00000000\n\
+x30 00000000\n\
+x31 00000000\n\
+";
+
+const USAGE: &[u8] = b"usage: clic_tool asm | disasm | run | chain | monitor | gen\n";
+
+// No call has this number.
+const NEVER: u64 = 1000;
+
+// What these words write and answer, over a shelf that holds one file. Numbers are those of the calls
+// that fail.
+fn answered(
+    alloc: Global,
+    words: &[&str],
+    file: &[u8],
+    fetch: u64,
+    put: u64,
+    room: usize,
+) -> Result<(Status, MemorySink), WantOfMemory> {
+    let mut shelf = MemoryShelf::new(alloc);
+    shelf.hold("first.bin", file)?;
+    shelf.fail_at(fetch)?;
+    let mut out = MemorySink::new(alloc, room)?;
+    out.fail_at(put)?;
+    let mut given = Words::new(alloc);
+    for word in words {
+        given.push(word)?;
+    }
+    let status = clic_main(alloc, &given, &mut shelf, &mut out);
+    Ok((status, out))
+}
+
+#[test]
+fn the_first_image_halts_with_five(rt: HostRuntime) -> Result<(), Fail> {
+    let words = ["run", "first.bin", "100"];
+    let (status, out) = answered(rt.alloc(), &words, &HALTS, NEVER, NEVER, 4096)?;
+    assert_eq!(rt; status, Status::Done);
+    assert_eq!(rt; out.bytes(), REPORT);
+    Ok(())
+}
+
+#[test]
+fn each_other_end(rt: HostRuntime) -> Result<(), Fail> {
+    let cases: [(&str, &str, &[u8], u64, Status, &[u8]); 7] = [
+        (
+            "first.bin",
+            "5",
+            &[],
+            NEVER,
+            Status::NotBuilt,
+            b"end notbuilt 00000000\nsteps 0\npc 00000000\nx1 ",
+        ),
+        (
+            "first.bin",
+            "2",
+            &HALTS,
+            NEVER,
+            Status::BudgetSpent,
+            b"end budget\nsteps 2\npc 00000008\nx1 ",
+        ),
+        (
+            "first.bin",
+            "3",
+            &HALTS,
+            NEVER,
+            Status::Done,
+            b"end halt 00000005\nsteps 3\n",
+        ),
+        (
+            "first.bin",
+            "0",
+            &HALTS,
+            NEVER,
+            Status::BudgetSpent,
+            b"end budget\nsteps 0\n",
+        ),
+        (
+            "other.bin",
+            "100",
+            &HALTS,
+            NEVER,
+            Status::Absent,
+            b"absent other.bin\n",
+        ),
+        ("", "100", &HALTS, NEVER, Status::Absent, b"absent \n"),
+        (
+            "first.bin",
+            "100",
+            &HALTS,
+            1,
+            Status::ShelfFailed,
+            b"shelf failed first.bin\n",
+        ),
+    ];
+    for (name, bound, file, fetch, want, front) in cases {
+        let words = ["run", name, bound];
+        let (status, out) = answered(rt.alloc(), &words, file, fetch, NEVER, 4096)?;
+        assert_eq!(rt; status, want, "{name} {bound}");
+        assert!(rt; out.bytes().starts_with(front), "{name} {bound}");
+    }
+    Ok(())
+}
+
+#[test]
+fn words_that_are_no_command(rt: HostRuntime) -> Result<(), Fail> {
+    let cases: [&[&str]; 9] = [
+        &[],
+        &["run"],
+        &["run", "first.bin"],
+        &["run", "first.bin", "100", "--trace"],
+        &["fly", "first.bin", "100"],
+        &["run", "first.bin", "01"],
+        &["run", "first.bin", "1000000001"],
+        &["run", "first.bin", "-1"],
+        &["run", "first.bin", ""],
+    ];
+    for words in cases {
+        let (status, out) = answered(rt.alloc(), words, &HALTS, NEVER, NEVER, 4096)?;
+        assert_eq!(rt; status, Status::Usage);
+        assert_eq!(rt; out.bytes(), USAGE);
+    }
+    Ok(())
+}
+
+#[test]
+fn a_whole_rom_and_one_byte_more(rt: HostRuntime) -> Result<(), Fail> {
+    let words = ["run", "first.bin", "1"];
+    let rom = vec![in rt.alloc(); 0u8; 65_536]?;
+    let (status, out) = answered(rt.alloc(), &words, &rom, NEVER, NEVER, 4096)?;
+    assert_eq!(rt; status, Status::NotBuilt);
+    assert!(rt; out.bytes().starts_with(b"end notbuilt 00000000\nsteps 0\n"));
+    let more = vec![in rt.alloc(); 0u8; 65_537]?;
+    let (status, out) = answered(rt.alloc(), &words, &more, NEVER, NEVER, 4096)?;
+    assert_eq!(rt; status, Status::Refused);
+    assert_eq!(rt; out.bytes(), b"refused image TooLarge\n".as_slice());
+    Ok(())
+}
+
+// The report is 34 puts, one for each line.
+#[test]
+fn each_put_fails_in_turn(rt: HostRuntime) -> Result<(), Fail> {
+    let words = ["run", "first.bin", "100"];
+    for put in 1..=35 {
+        let (status, out) = answered(rt.alloc(), &words, &HALTS, NEVER, put, 4096)?;
+        let want = if put <= 34 {
+            Status::SinkFailed
+        } else {
+            Status::Done
+        };
+        assert_eq!(rt; status, want, "put {put}");
+        assert!(rt; REPORT.starts_with(out.bytes()), "put {put}");
+    }
+    Ok(())
+}
+
+#[test]
+fn the_room_is_too_small(rt: HostRuntime) -> Result<(), Fail> {
+    let words = ["run", "first.bin", "100"];
+    for room in [0, 1, REPORT.len() - 1] {
+        let (status, out) = answered(rt.alloc(), &words, &HALTS, NEVER, NEVER, room)?;
+        assert_eq!(rt; status, Status::SinkFailed, "room {room}");
+        assert_eq!(rt; out.bytes().len(), room);
+        assert!(rt; REPORT.starts_with(out.bytes()), "room {room}");
+    }
+    Ok(())
+}

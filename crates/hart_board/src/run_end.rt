@@ -1,0 +1,13 @@
+// How a run ended.
+
+/// How a run ended. `steps` is how many were made.
+#[derive(Clone, Copy, Debug, PartialEq, Eq, Drop)]
+pub enum RunEnd {
+    Halted { code: u32, steps: u64 },
+    /// The bound was reached.
+    BudgetSpent,
+    /// The instruction at pc isn't built yet.
+    NotBuilt { word: u32, steps: u64 },
+    /// The report couldn't be written.
+    SinkFailed,
+}
