@@ -14,8 +14,8 @@ use Rattle.hart_board.specs.declared.run_end.RunEnd.{RunEnd}
 use Rattle.hart_board.specs.declared.run_end.RunEnd.TheVariants.{Halted, BudgetSpent as budget_spent, NotBuilt as not_built, SinkFailed as sink_failed}
 use Rattle.clic_tool.specs.Words.{IsRun, IsNoCommand}
 use Rattle.clic_tool.specs.Due.{Due, usage_due, image_due, status_of, loaded}
-use Rattle.clic_tool.specs.Answers.{Ends, EndsOrLacks, Misuses, Runs, Ran, Answers, IsCalm}
-use Rattle.clic_tool.specs.Causes.{NoneRose, Gave, RanTo, IsTooLarge, IsAbsent, HasFailed}
+use Rattle.clic_tool.specs.Answers.{Ends, EndsOrLacks, Misuses, Runs, Answers, IsCalm}
+use Rattle.clic_tool.specs.Causes.{NoneRose, RanTo, IsTooLarge, IsAbsent, HasFailed}
 use Rattle.clic_tool.specs.declared.status.Status.{Status}
 use Rattle.clic_tool.specs.declared.status.Status.TheVariants.{Done, BudgetSpent, Usage, Absent, ShelfFailed, Refused, SinkFailed, Memory, NotBuilt}
 use Rattle.clic_tool.proofs.Calm.{never_rose, same_words}

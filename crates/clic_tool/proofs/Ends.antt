@@ -1,5 +1,5 @@
 -- What was written, and how a command ends.
-use Rattle.std.proofs.Common.{◌≡◌, ℕ, ◌+◌, ◌<◌, ◌≤◌, List, [], ◌∷◌, Bool, true, false, IsTrue, drop, length, slice_index, add-one, drop-cons, length-drop, refl, arith, inl, inr, if◌then◌else◌, ◌⊎◌, ◌∙◌, ap}
+use Rattle.std.proofs.Common.{◌≡◌, ℕ, ◌+◌, ◌<◌, ◌≤◌, List, [], ◌∷◌, Bool, true, false, IsTrue, drop, length, slice_index, add-one, drop-cons, length-drop, refl, arith, inl, inr, if◌then◌else◌, ◌∙◌, ap}
 use Rattle.std.proofs.lemmas.List.{nil_from_length}
 use Rattle.board_outside.specs.Sink.{SinkView, Writes}
 use Rattle.hart_board.specs.State.{State, with_byte}

@@ -164,14 +164,18 @@ fn words_that_are_no_command(rt: HostRuntime) -> Result<(), Fail> {
     Ok(())
 }
 
+fn zeros(alloc: Global, len: usize) -> Result<Vec<u8>, WantOfMemory> {
+    Ok(vec![in alloc; 0; len]?)
+}
+
 #[test]
 fn a_whole_rom_and_one_byte_more(rt: HostRuntime) -> Result<(), Fail> {
     let words = ["run", "first.bin", "1"];
-    let rom = vec![in rt.alloc(); 0u8; 65_536]?;
+    let rom = zeros(rt.alloc(), 65_536)?;
     let (status, out) = answered(rt.alloc(), &words, &rom, NEVER, NEVER, 4096)?;
     assert_eq!(rt; status, Status::NotBuilt);
     assert!(rt; out.bytes().starts_with(b"end notbuilt 00000000\nsteps 0\n"));
-    let more = vec![in rt.alloc(); 0u8; 65_537]?;
+    let more = zeros(rt.alloc(), 65_537)?;
     let (status, out) = answered(rt.alloc(), &words, &more, NEVER, NEVER, 4096)?;
     assert_eq!(rt; status, Status::Refused);
     assert_eq!(rt; out.bytes(), b"refused image TooLarge\n".as_slice());

@@ -1,7 +1,7 @@
 -- A run is steps from a state, up to its end.
-use Rattle.std.proofs.Common.{◌≡◌, ℕ, ◌+◌, ◌≤◌, ◌<◌, suc, zero, Option, Some, None, arith, refl, ◌∙◌, ap, sym, subst}
+use Rattle.std.proofs.Common.{◌≡◌, ℕ, ◌+◌, suc, zero, Option, Some, None, arith, refl}
 use Rattle.hart_board.specs.State.{State}
-use Rattle.hart_board.specs.Run.{run_from, run_of, end_at, going_on, going_or_halted, Leads, EndsAfter}
+use Rattle.hart_board.specs.Run.{run_from, run_of, end_at, going_on, going_or_halted, EndsAfter}
 use Rattle.hart_board.specs.Step.{step}
 use Rattle.hart_board.specs.declared.stepped.Stepped.{Stepped}
 use Rattle.hart_board.specs.declared.stepped.Stepped.TheVariants.{Retired, NotBuilt as step_not_built}
