@@ -1,5 +1,5 @@
 -- Where no fault was counted, a run is that of the file which the shelf holds.
-use Rattle.std.proofs.Common.{◌≡◌, ℕ, ◌<◌, ◌^◌, List, ◌∷◌, [], true, Option, Some, None, Result, Ok, Err, IfSome, take, length, length-take, nat_lt, refl, arith, inl, inr, codes, slice_get, option_map, sym}
+use Rattle.std.proofs.Common.{◌≡◌, ℕ, ◌<◌, ◌≤◌, ◌^◌, List, ◌∷◌, [], true, false, Option, Some, None, Result, Ok, Err, IfSome, take, length, length-take, nat_lt, refl, arith, inl, inr, codes, slice_get, option_map, sym}
 use Rattle.std.proofs.lemmas.Bool.{cases_lt}
 use Rattle.std.proofs.lemmas.Bool.Decides.{nat_tests}
 use Rattle.std.proofs.lemmas.Fmt.{decimal_injective}

@@ -11,13 +11,15 @@ use Rattle.hart_board.specs.State.{State}
 use Rattle.hart_board.specs.Run.{run_of, EndsAfter}
 use Rattle.hart_board.proofs.Leading.{run_ends_after}
 use Rattle.hart_board.specs.declared.run_end.RunEnd.{RunEnd}
-use Rattle.hart_board.specs.declared.run_end.RunEnd.TheVariants.{Halted, BudgetSpent as budget_spent, NotBuilt as not_built, SinkFailed as sink_failed}
+use Rattle.hart_board.specs.declared.run_end.RunEnd.TheVariants.{Halted, BudgetSpent as budget_spent, VectorFault as vector_fault, SinkFailed as sink_failed}
+use Rattle.device_model.specs.Meanings.{Meanings}
+use Rattle.clic_tool.specs.Shipped.{shipped_meanings}
 use Rattle.clic_tool.specs.Words.{IsRun, IsNoCommand}
 use Rattle.clic_tool.specs.Due.{Due, usage_due, image_due, status_of, loaded}
-use Rattle.clic_tool.specs.Answers.{Ends, EndsOrLacks, Misuses, Runs, Answers, IsCalm}
-use Rattle.clic_tool.specs.Causes.{NoneRose, RanTo, IsTooLarge, IsAbsent, HasFailed}
+use Rattle.clic_tool.specs.Answers.{Ends, EndsOrLacks, Misuses, Runs, Ran, Answers, IsCalm}
+use Rattle.clic_tool.specs.Causes.{NoneRose, Gave, RanTo, IsTooLarge, IsAbsent, HasFailed}
 use Rattle.clic_tool.specs.declared.status.Status.{Status}
-use Rattle.clic_tool.specs.declared.status.Status.TheVariants.{Done, BudgetSpent, Usage, Absent, ShelfFailed, Refused, SinkFailed, Memory, NotBuilt}
+use Rattle.clic_tool.specs.declared.status.Status.TheVariants.{Done, BudgetSpent, Usage, Absent, ShelfFailed, Refused, SinkFailed, Memory, VectorFault}
 use Rattle.clic_tool.proofs.Calm.{never_rose, same_words}
 
 -- how a run ends is neither usage, nor a refusal, nor a fault of the shelf, nor want of memory
@@ -25,7 +27,7 @@ is_end : Status → Type 0
 is_end Done = Unit {0}
 is_end BudgetSpent = Unit {0}
 is_end SinkFailed = Unit {0}
-is_end NotBuilt = Unit {0}
+is_end VectorFault = Unit {0}
 is_end Usage = ⊥
 is_end Absent = ⊥
 is_end ShelfFailed = ⊥
@@ -36,7 +38,7 @@ status_is_end : (end : RunEnd) → is_end (status_of end)
 unfolding is_end
 status_is_end (Halted code steps) = tt
 status_is_end budget_spent = tt
-status_is_end (not_built word steps) = tt
+status_is_end (vector_fault id steps) = tt
 status_is_end sink_failed = tt
 
 no_end : (end : RunEnd) (s : Status) → status_of end ≡ s → (is_end s → ⊥) → ⊥
@@ -45,27 +47,27 @@ no_end end s e none = none (subst is_end e (status_is_end end))
 is_budget_spent : (end : RunEnd) → status_of end ≡ BudgetSpent → end ≡ budget_spent
 is_budget_spent (Halted code steps) e = cc
 is_budget_spent budget_spent e = refl
-is_budget_spent (not_built word steps) e = cc
+is_budget_spent (vector_fault id steps) e = cc
 is_budget_spent sink_failed e = cc
 
-is_not_built : (end : RunEnd) → status_of end ≡ NotBuilt → (word : ℕ) × (steps : ℕ) × (end ≡ not_built word steps)
-is_not_built (Halted code steps) e = cc
-is_not_built budget_spent e = cc
-is_not_built (not_built word steps) e = (word, steps, refl)
-is_not_built sink_failed e = cc
+is_vector_fault : (end : RunEnd) → status_of end ≡ VectorFault → (id : ℕ) × (steps : ℕ) × (end ≡ vector_fault id steps)
+is_vector_fault (Halted code steps) e = cc
+is_vector_fault budget_spent e = cc
+is_vector_fault (vector_fault id steps) e = (id, steps, refl)
+is_vector_fault sink_failed e = cc
 
 is_sink_failed : (end : RunEnd) → status_of end ≡ SinkFailed → end ≡ sink_failed
 is_sink_failed (Halted code steps) e = cc
 is_sink_failed budget_spent e = cc
-is_sink_failed (not_built word steps) e = cc
+is_sink_failed (vector_fault id steps) e = cc
 is_sink_failed sink_failed e = refl
 
 -- a run's own end is never a sink's failure
-never_sink_failed : (bound : ℕ) (s : State) → (run_of bound s).0 ≡ sink_failed → ⊥
-never_sink_failed bound s e = subst (λ (end : RunEnd). EndsAfter 0 bound s end (run_of bound s).1) e (run_ends_after bound s)
+never_sink_failed : (m : Meanings) (bound : ℕ) (s : State) → (run_of m bound s).0 ≡ sink_failed → ⊥
+never_sink_failed m bound s e = subst (λ (end : RunEnd). EndsAfter m 0 bound s end (run_of m bound s).1) e (run_ends_after m bound s)
 
 -- an image is too large, or it is run
-by_length : (image : List ℕ) (bound : ℕ) → (((image_due image bound).status ≡ Refused) × (65536 < length image)) ⊎ (((image_due image bound).status ≡ status_of (run_of bound (loaded image)).0) × (length image ≤ 65536))
+by_length : (image : List ℕ) (bound : ℕ) → (((image_due image bound).status ≡ Refused) × (65536 < length image)) ⊎ (((image_due image bound).status ≡ status_of (run_of shipped_meanings bound (loaded image)).0) × (length image ≤ 65536))
 unfolding image_due
 by_length image bound = elim (cases_lt 65536 (length image)) [
   | inl large ↦ let whole : nat_lt 65536 (length image) ≡ true = grind (arith, nat_tests) in inl (rw whole refl, large)
@@ -73,7 +75,7 @@ by_length image bound = elim (cases_lt 65536 (length image)) [
 ]
 
 -- a status that isn't that of a refusal is the one of the run's end
-ran_end : (image : List ℕ) (bound : ℕ) (s : Status) → (image_due image bound).status ≡ s → (s ≡ Refused → ⊥) → (status_of (run_of bound (loaded image)).0 ≡ s) × (length image ≤ 65536)
+ran_end : (image : List ℕ) (bound : ℕ) (s : Status) → (image_due image bound).status ≡ s → (s ≡ Refused → ⊥) → (status_of (run_of shipped_meanings bound (loaded image)).0 ≡ s) × (length image ≤ 65536)
 ran_end image bound s e other = elim (by_length image bound) [
   | inl large ↦ absurd (other (sym e ∙ large.0))
   | inr short ↦ (sym short.0 ∙ e, short.1)
@@ -124,18 +126,18 @@ pub budget_cause : (status : Status) (words : List (List ℕ)) (shelf shelf' : S
 budget_cause status words shelf shelf' sink sink' (inl m) e = absurd (misused BudgetSpent status shelf shelf' sink sink' m.1 e (λ c. cc) (λ c. cc))
 budget_cause status words shelf shelf' sink sink' (inr ran) e = budget_run ran.fetched status words shelf shelf' sink sink' ran.name ran.bound ran.is_run ran.runs e
 
-not_built_run : (fetched : Result (List ℕ) ShelfFault) (status : Status) (words : List (List ℕ)) (shelf shelf' : ShelfView) (sink sink' : SinkView) (name : List ℕ) (bound : ℕ) → IsRun words name bound → Runs status fetched shelf shelf' sink sink' name bound → status ≡ NotBuilt → RanTo (λ end. (word : ℕ) × (steps : ℕ) × (end ≡ not_built word steps)) words shelf
-not_built_run (Ok image) status words shelf shelf' sink sink' name bound is_run runs e =
-    let all = settled NotBuilt status sink sink' (image_due image bound) e (λ c. cc) (λ c. cc) runs.ends in
-    let end = ran_end image bound NotBuilt all.0 (λ c. cc) in
-    record { gave = record { name = name; bound = bound; image = image; is_run = is_run; file = runs.file }; short = end.1; end = is_not_built _ end.0 }
-not_built_run (Err absent) status words shelf shelf' sink sink' name bound is_run runs e = let c = (ended NotBuilt status sink sink' _ e (λ c. cc) runs.ends).0 in cc
-not_built_run (Err failed) status words shelf shelf' sink sink' name bound is_run runs e = let c = (ended NotBuilt status sink sink' _ e (λ c. cc) runs.ends).0 in cc
-not_built_run (Err memory) status words shelf shelf' sink sink' name bound is_run runs e = let c = (ended NotBuilt status sink sink' _ e (λ c. cc) runs.ends).0 in cc
+vector_run : (fetched : Result (List ℕ) ShelfFault) (status : Status) (words : List (List ℕ)) (shelf shelf' : ShelfView) (sink sink' : SinkView) (name : List ℕ) (bound : ℕ) → IsRun words name bound → Runs status fetched shelf shelf' sink sink' name bound → status ≡ VectorFault → RanTo (λ end. (id : ℕ) × (steps : ℕ) × (end ≡ vector_fault id steps)) words shelf
+vector_run (Ok image) status words shelf shelf' sink sink' name bound is_run runs e =
+    let all = settled VectorFault status sink sink' (image_due image bound) e (λ c. cc) (λ c. cc) runs.ends in
+    let end = ran_end image bound VectorFault all.0 (λ c. cc) in
+    record { gave = record { name = name; bound = bound; image = image; is_run = is_run; file = runs.file }; short = end.1; end = is_vector_fault _ end.0 }
+vector_run (Err absent) status words shelf shelf' sink sink' name bound is_run runs e = let c = (ended VectorFault status sink sink' _ e (λ c. cc) runs.ends).0 in cc
+vector_run (Err failed) status words shelf shelf' sink sink' name bound is_run runs e = let c = (ended VectorFault status sink sink' _ e (λ c. cc) runs.ends).0 in cc
+vector_run (Err memory) status words shelf shelf' sink sink' name bound is_run runs e = let c = (ended VectorFault status sink sink' _ e (λ c. cc) runs.ends).0 in cc
 
-pub not_built_cause : (status : Status) (words : List (List ℕ)) (shelf shelf' : ShelfView) (sink sink' : SinkView) → Answers status words shelf shelf' sink sink' → status ≡ NotBuilt → RanTo (λ end. (word : ℕ) × (steps : ℕ) × (end ≡ not_built word steps)) words shelf
-not_built_cause status words shelf shelf' sink sink' (inl m) e = absurd (misused NotBuilt status shelf shelf' sink sink' m.1 e (λ c. cc) (λ c. cc))
-not_built_cause status words shelf shelf' sink sink' (inr ran) e = not_built_run ran.fetched status words shelf shelf' sink sink' ran.name ran.bound ran.is_run ran.runs e
+pub vector_cause : (status : Status) (words : List (List ℕ)) (shelf shelf' : ShelfView) (sink sink' : SinkView) → Answers status words shelf shelf' sink sink' → status ≡ VectorFault → RanTo (λ end. (id : ℕ) × (steps : ℕ) × (end ≡ vector_fault id steps)) words shelf
+vector_cause status words shelf shelf' sink sink' (inl m) e = absurd (misused VectorFault status shelf shelf' sink sink' m.1 e (λ c. cc) (λ c. cc))
+vector_cause status words shelf shelf' sink sink' (inr ran) e = vector_run ran.fetched status words shelf shelf' sink sink' ran.name ran.bound ran.is_run ran.runs e
 
 refused_run : (fetched : Result (List ℕ) ShelfFault) (status : Status) (words : List (List ℕ)) (shelf shelf' : ShelfView) (sink sink' : SinkView) (name : List ℕ) (bound : ℕ) → IsRun words name bound → Runs status fetched shelf shelf' sink sink' name bound → status ≡ Refused → IsTooLarge words shelf
 unfolding is_end
@@ -195,7 +197,7 @@ failed_cause status words shelf shelf' sink sink' (inr ran) e = failed_run ran.f
 sink_image : (image : List ℕ) (bound : ℕ) (status : Status) (o n : SinkView) → EndsOrLacks status o n (image_due image bound) → status ≡ SinkFailed → Rose o.faults n.faults
 sink_image image bound status o n (inl (inl h)) e =
     let end = ran_end image bound SinkFailed (sym h.0 ∙ e) (λ c. cc) in
-    absurd (never_sink_failed bound (loaded image) (is_sink_failed _ end.0))
+    absurd (never_sink_failed shipped_meanings bound (loaded image) (is_sink_failed _ end.0))
 sink_image image bound status o n (inl (inr h)) e = h.1.counts
 sink_image image bound status o n (inr h) e = let c = sym e ∙ h.0 in cc
 

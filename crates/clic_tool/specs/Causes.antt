@@ -6,6 +6,7 @@ use Rattle.board_outside.specs.Sink.{SinkView, Writes}
 use Rattle.hart_board.specs.Run.{run_of}
 use Rattle.hart_board.specs.declared.run_end.RunEnd.{RunEnd}
 use Rattle.clic_tool.specs.Words.{IsRun}
+use Rattle.clic_tool.specs.Shipped.{shipped_meanings}
 use Rattle.clic_tool.specs.Lines.{failed_line, absent_line}
 use Rattle.clic_tool.specs.Due.{image_limit, loaded}
 
@@ -26,7 +27,7 @@ pub record Gave (words : List (List ℕ)) (shelf : ShelfView) : Type 0 where
 pub record RanTo (ended : RunEnd → Type 0) (words : List (List ℕ)) (shelf : ShelfView) : Type 0 where
   pub gave : Gave words shelf
   pub short : length gave.image ≤ image_limit
-  pub end : ended (run_of gave.bound (loaded gave.image)).0
+  pub end : ended (run_of shipped_meanings gave.bound (loaded gave.image)).0
 
 -- the file was given, and it is longer than its limit
 pub record IsTooLarge (words : List (List ℕ)) (shelf : ShelfView) : Type 0 where

@@ -1,7 +1,7 @@
 -- The exit status of the program.
 use Rattle.std.specs.Prelude.{ℕ}
 use Rattle.clic_tool.specs.declared.status.Status.{Status}
-use Rattle.clic_tool.specs.declared.status.Status.TheVariants.{Done, BudgetSpent, Usage, Absent, ShelfFailed, Refused, SinkFailed, Memory, NotBuilt}
+use Rattle.clic_tool.specs.declared.status.Status.TheVariants.{Done, BudgetSpent, Usage, Absent, ShelfFailed, Refused, SinkFailed, Memory, VectorFault}
 
 abbrev pub code_of : Status → ℕ
 code_of Done = 0
@@ -12,4 +12,4 @@ code_of ShelfFailed = 4
 code_of Refused = 5
 code_of SinkFailed = 6
 code_of Memory = 7
-code_of NotBuilt = 10
+code_of VectorFault = 9

@@ -1,11 +1,13 @@
 // The command.
-ghost use Rattle.std.specs.Prelude.{◌≡◌, ℕ, ◌≤◌, ◌<◌, true, length, if◌then◌else◌, List, [], Result, is_ok, IfSome};
+ghost use Rattle.std.specs.Prelude.{◌≡◌, ℕ, ◌≤◌, ◌<◌, true, length, if◌then◌else◌, List, [], Result, is_ok, IsTrue, IfSome, IfOk};
 ghost use Rattle.board_outside.specs.Counts.{Rose};
 ghost use Rattle.board_outside.specs.Shelf.{file_at};
 ghost use Rattle.board_outside.specs.Sink.{Writes};
 ghost use Rattle.board_outside.specs.declared.shelf.ShelfFault.{ShelfFault};
-ghost use Rattle.hart_board.specs.declared.run_end.RunEnd.{RunEnd};
-ghost use Rattle.hart_board.specs.declared.run_end.RunEnd.TheVariants.{BudgetSpent, NotBuilt};
+ghost use Rattle.hart_board.specs.Run.{run_of, is_whole};
+ghost use Rattle.hart_board.specs.Report.{report};
+ghost use Rattle.clic_tool.specs.Shipped.{shipped_meanings, shipped_board};
+ghost use Rattle.hart_board.specs.declared.run_end.RunEnd.TheVariants.{BudgetSpent, VectorFault};
 ghost use Rattle.clic_tool.specs.Words.{IsRun, IsNoCommand};
 ghost use Rattle.clic_tool.specs.Due.{placed, status_of, image_due, fault_due, held_due};
 ghost use Rattle.clic_tool.specs.Answers.{Ends, EndsOrLacks, Misuses, Runs, Answers, IsCalm, HasDone};
@@ -14,8 +16,11 @@ ghost use Rattle.clic_tool.specs.Causes.{NoneRose, RanTo, IsTooLarge, IsAbsent, 
 use crate::status::Status;
 use crate::words::run_bound;
 use crate::writing::{put_named, put_too_large, put_usage};
+use board_devices::{AllDevices, shipped};
 use board_outside::{Shelf, ShelfFault, Sink, SinkFault, Words};
+use device_model::Device;
 use hart_board::{Board, RunEnd, run};
+use hart_words::WantOfMemory;
 use std::alloc::Global;
 
 /// The greatest length of an image.
@@ -37,20 +42,39 @@ fn status_of_end(end: &RunEnd) -> Status
     match *end {
         RunEnd::Halted { .. } => Status::Done,
         RunEnd::BudgetSpent => Status::BudgetSpent,
-        RunEnd::NotBuilt { .. } => Status::NotBuilt,
+        RunEnd::VectorFault { .. } => Status::VectorFault,
         RunEnd::SinkFailed => Status::SinkFailed,
     }
 }
 
 // Places the bytes from address 0 on.
 #[tactic(auto, using(crate::proofs::Ends::placing))]
-fn place_all(board: &mut Board, bytes: &[u8])
+fn place_all<D: Device>(board: &mut Board<D>, bytes: &[u8])
     requires { length bytes.now ≤ IMAGE_LIMIT }
     ensures { board.new ≡ placed 0 bytes.now board.old }
 {
     for (i, byte) in bytes.iter().enumerate() {
         board.place(i as u32, *byte);
     }
+}
+
+// The board with the shipped devices, at reset.
+#[tactic(auto, unfolding(crate::specs::Shipped::shipped_board, crate::specs::Shipped::shipped_meanings))]
+fn new_board(alloc: Global) -> Result<Board<AllDevices>, WantOfMemory>
+    ensures { IfOk result (λ board. board ≡ shipped_board) }
+{
+    let devices = shipped(alloc)?;
+    Board::new(alloc, devices)
+}
+
+// Runs the board with the shipped devices.
+#[tactic(auto, unfolding(crate::specs::Shipped::shipped_meanings))]
+fn run_shipped<W: Sink>(board: &mut Board<AllDevices>, bound: u64, out: &mut W) -> RunEnd
+    ensures end { IsTrue (is_whole result) → result ≡ (run_of shipped_meanings bound board.old).0 }
+    ensures text { let due = run_of shipped_meanings bound board.old in
+        Writes (is_whole result) (W.told out.old) (W.told out.new) (report bound due.0 due.1) }
+{
+    run(board, bound, out)
 }
 
 // Runs an image of these bytes.
@@ -60,12 +84,12 @@ fn run_image<W: Sink>(alloc: Global, image: &[u8], bound: u64, out: &mut W) -> S
     if image.len() > IMAGE_LIMIT {
         return ended(put_too_large(out), Status::Refused);
     }
-    let mut board = match Board::new(alloc) {
+    let mut board = match new_board(alloc) {
         Ok(board) => board,
         Err(_) => return Status::Memory,
     };
     place_all(&mut board, image);
-    let end = run(&mut board, bound, out);
+    let end = run_shipped(&mut board, bound, out);
     status_of_end(&end)
 }
 
@@ -132,7 +156,7 @@ pub fn clic_main<F: Shelf, W: Sink>(
     ensures status_refused { result ≡ Status.Refused → IsTooLarge words.now (F.told shelf.old) }
     ensures status_sink_failed { result ≡ Status.SinkFailed → Rose (W.told out.old).faults (W.told out.new).faults }
     ensures status_memory { result ≡ Status.Memory → Writes true (W.told out.old) (W.told out.new) [] }
-    ensures status_not_built { result ≡ Status.NotBuilt → RanTo (λ end. (word : ℕ) × (steps : ℕ) × (end ≡ NotBuilt word steps)) words.now (F.told shelf.old) }
+    ensures status_vector_fault { result ≡ Status.VectorFault → RanTo (λ end. (id : ℕ) × (steps : ℕ) × (end ≡ VectorFault id steps)) words.now (F.told shelf.old) }
 
     // Faults of the outside decide the status, those of the sink first.
     ensures sink_faults_rose { (W.told out.old).faults < (W.told out.new).faults → result ≡ Status.SinkFailed }

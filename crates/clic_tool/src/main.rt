@@ -1,6 +1,8 @@
 // The command of the board: `clic_tool run FILE BOUND`.
 #![tactic(auto)]
 
+#[cfg(test)]
+mod board_tests;
 mod command;
 mod status;
 #[cfg(test)]

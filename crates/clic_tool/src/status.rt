@@ -20,8 +20,8 @@ pub enum Status {
     SinkFailed,
     /// Memory was wanting.
     Memory,
-    /// An instruction isn't built yet.
-    NotBuilt,
+    /// The table's word for an input isn't in memory.
+    VectorFault,
 }
 
 impl Status {
@@ -40,7 +40,7 @@ impl Status {
             Status::Refused => 5,
             Status::SinkFailed => 6,
             Status::Memory => 7,
-            Status::NotBuilt => 10,
+            Status::VectorFault => 9,
         }
     }
 }

@@ -89,8 +89,8 @@ fn each_other_end(rt: HostRuntime) -> Result<(), Fail> {
             "5",
             &[],
             NEVER,
-            Status::NotBuilt,
-            b"end notbuilt 00000000\nsteps 0\npc 00000000\nx1 ",
+            Status::BudgetSpent,
+            b"end budget\nsteps 5\npc 00000000\nx1 ",
         ),
         (
             "first.bin",
@@ -173,8 +173,11 @@ fn a_whole_rom_and_one_byte_more(rt: HostRuntime) -> Result<(), Fail> {
     let words = ["run", "first.bin", "1"];
     let rom = zeros(rt.alloc(), 65_536)?;
     let (status, out) = answered(rt.alloc(), &words, &rom, NEVER, NEVER, 4096)?;
-    assert_eq!(rt; status, Status::NotBuilt);
-    assert!(rt; out.bytes().starts_with(b"end notbuilt 00000000\nsteps 0\n"));
+    assert_eq!(rt; status, Status::BudgetSpent);
+    assert!(rt;
+        out.bytes()
+            .starts_with(b"end budget\nsteps 1\npc 00000000\n")
+    );
     let more = zeros(rt.alloc(), 65_537)?;
     let (status, out) = answered(rt.alloc(), &words, &more, NEVER, NEVER, 4096)?;
     assert_eq!(rt; status, Status::Refused);
@@ -207,6 +210,66 @@ fn the_room_is_too_small(rt: HostRuntime) -> Result<(), Fail> {
         assert_eq!(rt; status, Status::SinkFailed, "room {room}");
         assert_eq!(rt; out.bytes().len(), room);
         assert!(rt; REPORT.starts_with(out.bytes()), "room {room}");
+    }
+    Ok(())
+}
+
+// The bytes of these words.
+fn bytes_of(alloc: Global, words: &[u32]) -> Result<Vec<u8>, WantOfMemory> {
+    let mut bytes = Vec::new(alloc);
+    for word in words {
+        bytes.extend_from_slice(&word.to_le_bytes())?;
+    }
+    Ok(bytes)
+}
+
+// Whether the text has this line.
+fn has_line(text: &[u8], line: &[u8]) -> bool {
+    text.split(|byte| *byte == b'\n').any(|l| l == line)
+}
+
+#[test]
+fn programs_and_the_registers_that_they_leave(rt: HostRuntime) -> Result<(), Fail> {
+    let alloc = rt.alloc();
+    // lui t0; addi t1, zero, -1; div, rem; the halter
+    let divides = bytes_of(
+        alloc,
+        &[
+            0x800002B7, 0xFFF00313, 0x0262C533, 0x0262E5B3, 0x100032B7, 0x00A2A023,
+        ],
+    )?;
+    // c.li a0, 5, and two words
+    let mixed = [0x15, 0x45, 0xB7, 0x32, 0x00, 0x10, 0x23, 0xA0, 0xA2, 0x00];
+    // a byte to the serial port
+    let writes = bytes_of(
+        alloc,
+        &[0x10000437, 0x04100513, 0x00A42023, 0x100032B7, 0x0002A023],
+    )?;
+    let cases: [(&[u8], &[u8], [&[u8]; 3]); 3] = [
+        (
+            &divides,
+            b"end halt 80000000\nsteps 6\npc 00000018\n",
+            [b"x6 FFFFFFFF", b"x10 80000000", b"x11 00000000"],
+        ),
+        (
+            &mixed,
+            b"end halt 00000005\nsteps 3\npc 0000000A\n",
+            [b"x5 10003000", b"x10 00000005", b"x11 00000000"],
+        ),
+        (
+            &writes,
+            b"end halt 00000000\nsteps 5\npc 00000014\n",
+            [b"x5 10003000", b"x8 10000000", b"x10 00000041"],
+        ),
+    ];
+    for (file, front, lines) in cases {
+        let words = ["run", "first.bin", "100"];
+        let (status, out) = answered(alloc, &words, file, NEVER, NEVER, 4096)?;
+        assert_eq!(rt; status, Status::Done);
+        assert!(rt; out.bytes().starts_with(front));
+        for line in lines {
+            assert!(rt; has_line(out.bytes(), line));
+        }
     }
     Ok(())
 }

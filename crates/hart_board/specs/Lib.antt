@@ -1,4 +1,11 @@
 pub mod State
+pub mod Region
+pub mod Outside
+pub mod Access
+pub mod Told
+pub mod Attempt
 pub mod Step
+pub mod Kinds
+pub mod Event
 pub mod Run
 pub mod Report

@@ -5,20 +5,20 @@ use Rattle.hart_words.specs.Hexadecimal.{hex8}
 use Rattle.hart_words.specs.Registers.{register}
 use Rattle.hart_board.specs.State.{State}
 use Rattle.hart_board.specs.declared.run_end.RunEnd.{RunEnd}
-use Rattle.hart_board.specs.declared.run_end.RunEnd.TheVariants.{Halted, BudgetSpent, NotBuilt, SinkFailed}
+use Rattle.hart_board.specs.declared.run_end.RunEnd.TheVariants.{Halted, BudgetSpent, VectorFault, SinkFailed}
 
 -- how it ended
 unfoldable pub end_line : RunEnd → List ℕ
 end_line (Halted code steps) = codes "end halt " ++ hex8 code ++ codes "\n"
 end_line BudgetSpent = codes "end budget\n"
-end_line (NotBuilt bits steps) = codes "end notbuilt " ++ hex8 bits ++ codes "\n"
+end_line (VectorFault id steps) = codes "end vector " ++ decimal id ++ codes "\n"
 end_line SinkFailed = []
 
 -- the steps of a run with that bound
 abbrev pub steps_of : ℕ → RunEnd → ℕ
 steps_of bound (Halted code steps) = steps
 steps_of bound BudgetSpent = bound
-steps_of bound (NotBuilt bits steps) = steps
+steps_of bound (VectorFault id steps) = steps
 steps_of bound SinkFailed = bound
 
 unfoldable pub steps_line : ℕ → List ℕ

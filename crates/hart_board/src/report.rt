@@ -6,6 +6,7 @@ ghost use Rattle.hart_board.specs.Report.{end_line, steps_of, steps_line, pc_lin
 use crate::board::Board;
 use crate::run_end::RunEnd;
 use board_outside::{Sink, SinkFault};
+use device_model::Device;
 use hart_words::Line;
 
 #[tactic(auto, unfolding(crate::specs::Report::end_line))]
@@ -20,9 +21,9 @@ fn fill_end(end: &RunEnd, line: &mut Line)
             line.put_text("\n");
         }
         RunEnd::BudgetSpent => line.put_text("end budget\n"),
-        RunEnd::NotBuilt { word, .. } => {
-            line.put_text("end notbuilt ");
-            line.put_hex8(word);
+        RunEnd::VectorFault { id, .. } => {
+            line.put_text("end vector ");
+            line.put_dec(u64::from(id));
             line.put_text("\n");
         }
         RunEnd::SinkFailed => {}
@@ -34,7 +35,7 @@ fn steps_made(end: &RunEnd, bound: u64) -> u64
 {
     match *end {
         RunEnd::Halted { steps, .. } => steps,
-        RunEnd::NotBuilt { steps, .. } => steps,
+        RunEnd::VectorFault { steps, .. } => steps,
         RunEnd::BudgetSpent | RunEnd::SinkFailed => bound,
     }
 }
@@ -82,7 +83,7 @@ fn put_register<W: Sink>(i: u8, value: u32, out: &mut W) -> Result<(), SinkFault
     out.put(line.bytes())
 }
 
-fn put_registers<W: Sink>(board: &Board, out: &mut W) -> Result<(), SinkFault>
+fn put_registers<D: Device, W: Sink>(board: &Board<D>, out: &mut W) -> Result<(), SinkFault>
     ensures { Writes (is_ok result) (W.told out.old) (W.told out.new) (register_lines 31 1 board.now.registers) }
 {
     for i in 1..32u8 {
@@ -92,10 +93,10 @@ fn put_registers<W: Sink>(board: &Board, out: &mut W) -> Result<(), SinkFault>
 }
 
 /// Writes the report of a run that ended so on this board.
-pub fn put_report<W: Sink>(
+pub fn put_report<D: Device, W: Sink>(
     end: &RunEnd,
     bound: u64,
-    board: &Board,
+    board: &Board<D>,
     out: &mut W,
 ) -> Result<(), SinkFault>
     ensures { Writes (is_ok result) (W.told out.old) (W.told out.new) (report bound end.now board.now) }

@@ -6,8 +6,8 @@ pub enum RunEnd {
     Halted { code: u32, steps: u64 },
     /// The bound was reached.
     BudgetSpent,
-    /// The instruction at pc isn't built yet.
-    NotBuilt { word: u32, steps: u64 },
+    /// The table's word for this input isn't in memory.
+    VectorFault { id: u32, steps: u64 },
     /// The report couldn't be written.
     SinkFailed,
 }

@@ -9,20 +9,22 @@ use crate::report::put_report;
 use crate::run_end::RunEnd;
 use crate::stepped::Stepped;
 use board_outside::Sink;
+use device_model::Device;
 
-// Steps until the board has halted, the bound is reached, or a step isn't built.
+// Steps until the board has halted, the bound is reached, or a table's word isn't in memory.
 #[tactic(auto, using(crate::proofs::Runs::runs), unfolding(crate::specs::Run::run_of))]
-fn advance(board: &mut Board, bound: u64) -> RunEnd
-    ensures run { (result, board.new) ≡ run_of bound board.old }
+fn advance<D: Device>(board: &mut Board<D>, bound: u64) -> RunEnd
+    ensures run { (result, board.new) ≡ run_of D.means bound board.old }
     ensures whole { is_whole result ≡ true }
 {
     for steps in 0..bound {
         match board.halted() {
             Some(code) => return RunEnd::Halted { code, steps },
-            None => match board.step() {
-                Stepped::NotBuilt(word) => return RunEnd::NotBuilt { word, steps },
-                Stepped::Retired => {}
-            },
+            None => {
+                if let Stepped::VectorFault(id) = board.step() {
+                    return RunEnd::VectorFault { id, steps };
+                }
+            }
         }
     }
     match board.halted() {
@@ -32,10 +34,10 @@ fn advance(board: &mut Board, bound: u64) -> RunEnd
 }
 
 /// Runs the board, and writes the report. Where the sink fails the board has made the same steps.
-pub fn run<W: Sink>(board: &mut Board, bound: u64, out: &mut W) -> RunEnd
-    ensures state { board.new ≡ (run_of bound board.old).1 }
-    ensures end { IsTrue (is_whole result) → result ≡ (run_of bound board.old).0 }
-    ensures text { let due = run_of bound board.old in
+pub fn run<D: Device, W: Sink>(board: &mut Board<D>, bound: u64, out: &mut W) -> RunEnd
+    ensures state { board.new ≡ (run_of D.means bound board.old).1 }
+    ensures end { IsTrue (is_whole result) → result ≡ (run_of D.means bound board.old).0 }
+    ensures text { let due = run_of D.means bound board.old in
         Writes (is_whole result) (W.told out.old) (W.told out.new) (report bound due.0 due.1) }
 {
     let end = advance(board, bound);

@@ -11,8 +11,8 @@ ghost use Rattle.rv_encoding.specs.declared.instruction.Ins.TheVariants.{Imm};
 use crate::fields::{
     immediate_b, immediate_i, immediate_j, immediate_s, immediate_u, rd, rs1, rs2,
 };
+use crate::function_fields::{branch_op, csr_op, imm_op, load_op, reg_op, store_op};
 use crate::instruction::Ins;
-use crate::operation::{branch_op, csr_op, imm_op, load_op, reg_op, store_op};
 use crate::operations::ImmOp;
 use hart_words::field;
 

@@ -5,10 +5,10 @@ mod canonical;
 mod decode;
 mod encode;
 mod fields;
+mod function_fields;
 mod instruction;
 pub mod laws;
 mod matches;
-mod operation;
 mod operations;
 mod spellable;
 #[cfg(test)]

@@ -1,5 +1,5 @@
 use Rattle.clic_tool.proofs.Calm.{calm_run}
-use Rattle.clic_tool.proofs.Causes.{usage_answer, run_answer, done_cause, budget_cause, usage_cause, absent_cause, failed_cause, refused_cause, sink_cause, memory_cause, not_built_cause, sink_faults, shelf_faults, shelf_absences}
+use Rattle.clic_tool.proofs.Causes.{usage_answer, run_answer, done_cause, budget_cause, usage_cause, absent_cause, failed_cause, refused_cause, sink_cause, memory_cause, vector_cause, sink_faults, shelf_faults, shelf_absences}
 use Rattle.clic_tool.proofs.command.clic_main.Goals as goal
 
 -- each clause follows from what was done
@@ -26,7 +26,7 @@ returns g c =
       status_refused = refused_cause status words shelf shelf' sink sink' done;
       status_sink_failed = sink_cause status words shelf shelf' sink sink' done;
       status_memory = memory_cause status words shelf shelf' sink sink' done;
-      status_not_built = not_built_cause status words shelf shelf' sink sink' done;
+      status_vector_fault = vector_cause status words shelf shelf' sink sink' done;
       sink_faults_rose = sink_faults status words shelf shelf' sink sink' done;
       shelf_faults_rose = shelf_faults status words shelf shelf' sink sink' done;
       absences_rose = shelf_absences status words shelf shelf' sink sink' done;

@@ -1,4 +1,4 @@
-use Rattle.std.proofs.Common.{◌≡◌, length, arith, rules}
+use Rattle.std.proofs.Common.{◌≡◌, length, arith, rules, decimal, refl, List, ℕ}
 use Rattle.clic_tool.proofs.Lists.{three_words}
 use Rattle.clic_tool.proofs.words.run_bound.Goals as goal
 

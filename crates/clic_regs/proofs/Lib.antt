@@ -1,0 +1,4 @@
+pub mod Levels
+pub mod Kept
+mod Lines
+mod Offsets

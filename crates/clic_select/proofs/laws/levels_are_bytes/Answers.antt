@@ -1,0 +1,5 @@
+use Rattle.clic_select.proofs.Tops.{top_level-lt}
+use Rattle.clic_select.proofs.laws.levels_are_bytes.Goals as goal
+
+pub returns : goal.returns
+returns c = top_level-lt

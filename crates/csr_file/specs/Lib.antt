@@ -1,0 +1,4 @@
+pub mod CsrState
+pub mod Fields
+pub mod Views
+pub mod Table

@@ -1,0 +1,5 @@
+pub mod Access
+pub mod Arithmetic
+pub mod Branches
+pub mod Effect
+pub mod Bounds

@@ -1,0 +1,6 @@
+pub mod Fields
+pub mod Rows
+pub mod Fits
+pub mod Halves
+pub mod Expansion
+pub mod Parts
