@@ -1,5 +1,5 @@
 use board_devices::{AllDevices, shipped};
-use counter_device::counting_devices;
+use counter_device::{CountingDevices, counting_devices};
 use device_model::{Device, Stimulus};
 use hart_board::{Board, Stepped, What};
 use std::alloc::Global;
@@ -19,7 +19,7 @@ fn new_board(alloc: Global) -> Result<Board<AllDevices>, Fail> {
     Ok(Board::new(alloc, shipped(alloc)?)?)
 }
 
-fn place_words(rt: &impl Abort, board: &mut Board<AllDevices>, at: u32, words: &[u32]) {
+fn place_words<D: Device>(rt: &impl Abort, board: &mut Board<D>, at: u32, words: &[u32]) {
     let mut address = at;
     for word in words {
         for byte in word.to_le_bytes() {
@@ -30,74 +30,72 @@ fn place_words(rt: &impl Abort, board: &mut Board<AllDevices>, at: u32, words: &
     }
 }
 
-fn make_steps(board: &mut Board<AllDevices>, count: u32) {
+fn make_steps<D: Device>(board: &mut Board<D>, count: u32) {
     for _ in 0..count {
         let _ = board.step();
     }
 }
 
-fn csr(rt: &impl Abort, board: &Board<AllDevices>, number: u16, want: u32) {
-    assert_eq!(rt; board.csrs().read(number), Some(want), "{number:x}");
+fn has_csrs<D: Device>(board: &Board<D>, wanted: &[(u16, u32)]) -> bool {
+    wanted
+        .iter()
+        .all(|row| board.csrs().read(row.0) == Some(row.1))
 }
 
-// The board as the program leaves it before its 24th step, with the line of input 3 raised.
-fn preempted(
-    rt: &impl Abort,
-    alloc: Global,
-    program: &[u32; 27],
-) -> Result<Board<AllDevices>, Fail> {
-    let mut board = new_board(alloc)?;
-    place_words(rt, &mut board, 0x200, program);
-    place_words(rt, &mut board, 0x10C, &[0x26C]);
+// Up to the 24th step of the program, with these words changed and the line of input 3 raised.
+fn preempt<D: Device>(rt: &impl Abort, board: &mut Board<D>, changes: &[(u32, u32)]) {
+    place_words(rt, board, 0x200, &PREEMPTS);
+    place_words(rt, board, 0x10C, &[0x26C]);
+    for change in changes {
+        place_words(rt, board, change.0, &[change.1]);
+    }
     board.set_pc(0x200);
-    make_steps(&mut board, 23);
+    make_steps(board, 23);
     board.apply(&What::Line {
         input: 3,
         high: true,
     });
-    Ok(board)
 }
 
-#[test]
-fn an_interrupt_is_entered(rt: HostRuntime) -> Result<(), Fail> {
-    let mut board = preempted(&rt, rt.alloc(), &PREEMPTS)?;
+fn enters<D: Device>(rt: &impl Abort, board: &mut Board<D>) {
+    preempt(rt, board, &[]);
     assert_eq!(rt; board.step(), Stepped::Interrupted { pc: 0x25C, id: 3 });
     assert_eq!(rt; board.pc(), 0x40);
-    for (number, want) in [
+    let wanted = [
         (0x300, 0x00001880),
         (0x305, 0x00000043),
         (0x307, 0x00000100),
         (0x341, 0x0000025C),
         (0x342, 0xB8000003),
         (0xFB1, 0x7F000000),
-    ] {
-        csr(&rt, &board, number, want);
-    }
+    ];
+    assert!(rt; has_csrs(board, &wanted));
     assert!(rt; board.select().clic().pending(3));
-    Ok(())
 }
 
 #[test]
-fn a_vector_outside_memory_is_a_fault_that_changes_nothing(rt: HostRuntime) -> Result<(), Fail> {
-    let mut program = PREEMPTS;
-    program[3] = 0x300002B7; // mtvt is 0x30000000
-    program[9] = 0x400302B7; // input 3 is hardware-vectored
-    let mut board = preempted(&rt, rt.alloc(), &program)?;
-    let before = board.copy(rt.alloc())?;
+fn an_interrupt_is_entered(rt: HostRuntime) -> Result<(), Fail> {
+    enters(&rt, &mut new_board(rt.alloc())?);
+    Ok(())
+}
+
+// The table of vectors is at 0x30000000, and input 3 is hardware-vectored.
+fn finds_no_vector<D: Device>(rt: &impl Abort, board: &mut Board<D>) {
+    preempt(rt, board, &[(0x20C, 0x300002B7), (0x224, 0x400302B7)]);
     assert_eq!(rt; board.step(), Stepped::VectorFault(3));
     assert_eq!(rt; board.try_step(), Stepped::VectorFault(3));
     assert_eq!(rt; board.pc(), 0x25C);
-    csr(&rt, &board, 0xFB1, 0);
-    for i in 1..32u8 {
-        assert_eq!(rt; board.reg(i), before.reg(i));
-    }
-    Ok(())
+    assert!(rt; has_csrs(board, &[(0xFB1, 0)]));
 }
 
 #[test]
-fn a_word_at_an_odd_place_and_a_half_at_the_end(rt: HostRuntime) -> Result<(), Fail> {
-    let mut board = new_board(rt.alloc())?;
-    place_words(&rt, &mut board, 2, &[0x00500513]);
+fn a_vector_outside_memory_changes_nothing(rt: HostRuntime) -> Result<(), Fail> {
+    finds_no_vector(&rt, &mut new_board(rt.alloc())?);
+    Ok(())
+}
+
+fn fetches_at_odd_places<D: Device>(rt: &impl Abort, board: &mut Board<D>) {
+    place_words(rt, board, 2, &[0x00500513]);
     board.set_pc(3);
     assert_eq!(rt;
         board.step(),
@@ -109,78 +107,76 @@ fn a_word_at_an_odd_place_and_a_half_at_the_end(rt: HostRuntime) -> Result<(), F
     );
     assert_eq!(rt; board.reg(10), 5);
     assert_eq!(rt; board.pc(), 6);
-    assert!(rt; board.banks().holds(0xFFFE, 1) && board.banks().holds(0xFFFF, 1));
-    board.place(0xFFFE, 0x13);
-    board.place(0xFFFF, 0x05);
+    place_words(rt, board, 0xFFFC, &[0x05130000]);
     board.set_pc(0xFFFE);
-    assert_eq!(rt;
-        board.try_step(),
-        Stepped::Raised {
-            pc: 0xFFFE,
-            code: 1
-        }
-    );
+    let fault = Stepped::Raised {
+        pc: 0xFFFE,
+        code: 1,
+    };
+    assert_eq!(rt; board.try_step(), fault);
     assert_eq!(rt; board.pc(), 0xFFFE);
-    assert_eq!(rt;
-        board.step(),
-        Stepped::Raised {
-            pc: 0xFFFE,
-            code: 1
-        }
-    );
-    csr(&rt, &board, 0x341, 0x0000FFFE);
-    csr(&rt, &board, 0x343, 0x00010000);
+    assert_eq!(rt; board.step(), fault);
+    assert!(rt; has_csrs(board, &[(0x341, 0x0000FFFE), (0x343, 0x00010000)]));
+}
+
+#[test]
+fn a_word_at_an_odd_place_and_a_half_at_the_end(rt: HostRuntime) -> Result<(), Fail> {
+    fetches_at_odd_places(&rt, &mut new_board(rt.alloc())?);
     Ok(())
 }
 
-// An environment call goes to 0x40 and leaves its cause; an illegal instruction leaves its bits.
-#[test]
-fn exceptions_leave_their_causes(rt: HostRuntime) -> Result<(), Fail> {
-    let mut board = new_board(rt.alloc())?;
-    place_words(&rt, &mut board, 0, &[0x04000293, 0x30529073, 0x00000073]);
-    place_words(&rt, &mut board, 0x40, &[0x100032B7, 0x0002A023]);
-    make_steps(&mut board, 5);
+// An environment call goes to 0x40, where the board is halted, and leaves its cause.
+fn calls_the_environment<D: Device>(rt: &impl Abort, board: &mut Board<D>) {
+    place_words(rt, board, 0, &[0x04000293, 0x30529073, 0x00000073]);
+    place_words(rt, board, 0x40, &[0x100032B7, 0x0002A023]);
+    make_steps(board, 5);
     assert_eq!(rt; board.halted(), Some(0));
     assert_eq!(rt; board.step(), Stepped::Halted(0));
     assert_eq!(rt; board.pc(), 0x48);
-    for (number, want) in [
+    let wanted = [
         (0x300, 0x00001800),
         (0x305, 0x00000043),
         (0x341, 0x00000008),
         (0x342, 0x3000000B),
         (0x343, 0x00000000),
-    ] {
-        csr(&rt, &board, number, want);
-    }
-    let mut fresh = new_board(rt.alloc())?;
-    place_words(&rt, &mut fresh, 0, &[0xFFFFFFFF]);
-    make_steps(&mut fresh, 1);
-    csr(&rt, &fresh, 0x342, 0x30000002);
-    csr(&rt, &fresh, 0x343, 0xFFFFFFFF);
+    ];
+    assert!(rt; has_csrs(board, &wanted));
+}
+
+fn meets_no_instruction<D: Device>(rt: &impl Abort, board: &mut Board<D>) {
+    place_words(rt, board, 0, &[0xFFFFFFFF]);
+    make_steps(board, 1);
+    assert!(rt; has_csrs(board, &[(0x342, 0x30000002), (0x343, 0xFFFFFFFF)]));
+}
+
+#[test]
+fn exceptions_leave_their_causes(rt: HostRuntime) -> Result<(), Fail> {
+    let mut board = new_board(rt.alloc())?;
+    let mut copied = board.copy(rt.alloc())?;
+    calls_the_environment(&rt, &mut board);
+    meets_no_instruction(&rt, &mut copied);
     Ok(())
 }
 
-// A device of the reader's own: a counter of the bytes that come, at 0x10004000, with input 19.
-#[test]
-fn a_board_with_one_more_device(rt: HostRuntime) -> Result<(), Fail> {
-    let devices = counting_devices(rt.alloc())?;
-    assert!(rt; devices.high() <= 0x1_0000 && devices.line_count() <= 8);
-    let mut board = Board::new(rt.alloc(), devices)?;
+// The counter's register is at 0x10004000, and its line is input 19: lui a1, 0x10004; lw a0, 0(a1).
+fn counts<D: Device>(rt: &impl Abort, board: &mut Board<D>) {
     for byte in [7, 8] {
         board.apply(&What::Device(Stimulus::Receive(byte)));
     }
     assert!(rt; board.select().clic().pending(19));
-    // lui a1, 0x10004; lw a0, 0(a1)
-    let program: [u8; 8] = [0xB7, 0x45, 0x00, 0x10, 0x03, 0xA5, 0x05, 0x00];
-    let mut at = 0;
-    for byte in program {
-        assert!(rt; board.banks().holds(at, 1));
-        board.place(at, byte);
-        at = at.wrapping_add(1);
-    }
-    for _ in 0..2 {
-        let _ = board.step();
-    }
+    place_words(rt, board, 0, &[0x100045B7, 0x0005A503]);
+    make_steps(board, 2);
     assert_eq!(rt; board.reg(10), 2);
+}
+
+fn counting_board(rt: &impl Abort, alloc: Global) -> Result<Board<CountingDevices>, Fail> {
+    let devices = counting_devices(alloc)?;
+    assert!(rt; devices.high() <= 0x1_0000 && devices.line_count() <= 8);
+    Ok(Board::new(alloc, devices)?)
+}
+
+#[test]
+fn a_board_with_one_more_device(rt: HostRuntime) -> Result<(), Fail> {
+    counts(&rt, &mut counting_board(&rt, rt.alloc())?);
     Ok(())
 }
