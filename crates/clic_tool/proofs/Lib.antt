@@ -1,3 +1,5 @@
+mod NoFault
+mod Found
 mod Lists
 mod Ends
 mod Calm

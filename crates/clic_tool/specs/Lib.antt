@@ -1,5 +1,7 @@
 pub mod Code
 pub mod Words
+pub mod Order
+pub mod View
 pub mod Lines
 pub mod Shipped
 pub mod Due

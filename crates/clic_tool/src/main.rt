@@ -4,6 +4,11 @@
 #[cfg(test)]
 mod board_tests;
 mod command;
+mod order;
+#[cfg(test)]
+mod order_tests;
+mod run_command;
+mod run_order;
 mod status;
 #[cfg(test)]
 mod tests;
