@@ -8,8 +8,10 @@ use Rattle.board_outside.specs.Sink.{SinkView, Writes}
 use Rattle.board_outside.specs.declared.shelf.ShelfFault.{ShelfFault}
 use Rattle.board_outside.specs.declared.shelf.ShelfFault.TheVariants.{Absent as absent, Failed as failed, Memory as memory}
 use Rattle.hart_board.specs.State.{State}
-use Rattle.hart_board.specs.Run.{run_of, EndsAfter}
-use Rattle.hart_board.proofs.Leading.{run_ends_after}
+use Rattle.hart_board.specs.Run.{run_of}
+use Rattle.hart_board.specs.Steps.{EndsAs}
+use Rattle.hart_board.proofs.Ending.{run_ends}
+use Rattle.hart_board.specs.declared.event.Event.{Event}
 use Rattle.hart_board.specs.declared.run_end.RunEnd.{RunEnd}
 use Rattle.hart_board.specs.declared.run_end.RunEnd.TheVariants.{Halted, BudgetSpent as budget_spent, VectorFault as vector_fault, SinkFailed as sink_failed}
 use Rattle.device_model.specs.Meanings.{Meanings}
@@ -63,11 +65,11 @@ is_sink_failed (vector_fault id steps) e = cc
 is_sink_failed sink_failed e = refl
 
 -- a run's own end is never a sink's failure
-never_sink_failed : (m : Meanings) (bound : ℕ) (s : State) → (run_of m bound s).0 ≡ sink_failed → ⊥
-never_sink_failed m bound s e = subst (λ (end : RunEnd). EndsAfter m 0 bound s end (run_of m bound s).1) e (run_ends_after m bound s)
+never_sink_failed : (m : Meanings) (es : List Event) (bound : ℕ) (s : State) → (run_of m es bound s).end ≡ sink_failed → ⊥
+never_sink_failed m es bound s e = subst (λ (end : RunEnd). EndsAs m es s bound end) e (run_ends m es bound s)
 
 -- an image is too large, or it is run
-by_length : (image : List ℕ) (bound : ℕ) → (((image_due image bound).status ≡ Refused) × (65536 < length image)) ⊎ (((image_due image bound).status ≡ status_of (run_of shipped_meanings bound (loaded image)).0) × (length image ≤ 65536))
+by_length : (image : List ℕ) (bound : ℕ) → (((image_due image bound).status ≡ Refused) × (65536 < length image)) ⊎ (((image_due image bound).status ≡ status_of (run_of shipped_meanings [] bound (loaded image)).end) × (length image ≤ 65536))
 unfolding image_due
 by_length image bound = elim (cases_lt 65536 (length image)) [
   | inl large ↦ let whole : nat_lt 65536 (length image) ≡ true = grind (arith, nat_tests) in inl (rw whole refl, large)
@@ -75,7 +77,7 @@ by_length image bound = elim (cases_lt 65536 (length image)) [
 ]
 
 -- a status that isn't that of a refusal is the one of the run's end
-ran_end : (image : List ℕ) (bound : ℕ) (s : Status) → (image_due image bound).status ≡ s → (s ≡ Refused → ⊥) → (status_of (run_of shipped_meanings bound (loaded image)).0 ≡ s) × (length image ≤ 65536)
+ran_end : (image : List ℕ) (bound : ℕ) (s : Status) → (image_due image bound).status ≡ s → (s ≡ Refused → ⊥) → (status_of (run_of shipped_meanings [] bound (loaded image)).end ≡ s) × (length image ≤ 65536)
 ran_end image bound s e other = elim (by_length image bound) [
   | inl large ↦ absurd (other (sym e ∙ large.0))
   | inr short ↦ (sym short.0 ∙ e, short.1)
@@ -197,7 +199,7 @@ failed_cause status words shelf shelf' sink sink' (inr ran) e = failed_run ran.f
 sink_image : (image : List ℕ) (bound : ℕ) (status : Status) (o n : SinkView) → EndsOrLacks status o n (image_due image bound) → status ≡ SinkFailed → Rose o.faults n.faults
 sink_image image bound status o n (inl (inl h)) e =
     let end = ran_end image bound SinkFailed (sym h.0 ∙ e) (λ c. cc) in
-    absurd (never_sink_failed shipped_meanings bound (loaded image) (is_sink_failed _ end.0))
+    absurd (never_sink_failed shipped_meanings [] bound (loaded image) (is_sink_failed _ end.0))
 sink_image image bound status o n (inl (inr h)) e = h.1.counts
 sink_image image bound status o n (inr h) e = let c = sym e ∙ h.0 in cc
 

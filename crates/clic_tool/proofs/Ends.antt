@@ -4,8 +4,9 @@ use Rattle.std.proofs.lemmas.List.{nil_from_length}
 use Rattle.board_outside.specs.Sink.{SinkView, Writes}
 use Rattle.hart_memory.specs.Access.{with_byte}
 use Rattle.hart_board.specs.State.{State}
-use Rattle.hart_board.specs.Run.{is_whole}
-use Rattle.hart_board.specs.Report.{report}
+use Rattle.hart_board.specs.Run.{Ran, is_whole}
+use Rattle.hart_board.specs.Text.{run_text}
+use Rattle.clic_tool.specs.Shipped.{shipped_meanings}
 use Rattle.hart_board.specs.declared.run_end.RunEnd.{RunEnd}
 use Rattle.hart_board.specs.declared.run_end.RunEnd.TheVariants.{Halted, BudgetSpent as budget_spent, VectorFault as vector_fault, SinkFailed as sink_failed}
 use Rattle.clic_tool.specs.Due.{placed, status_of, run_due}
@@ -31,7 +32,7 @@ ends_by true status text e w = inl (e, w)
 ends_by false status text e w = inr (e, w)
 
 -- a run, and the status that it ends with
-pub run_ends : (end : RunEnd) (bound : ℕ) (r : RunEnd × State) {status : Status} {o n : SinkView} → status ≡ status_of end → (IsTrue (is_whole end) → end ≡ r.0) → Writes (is_whole end) o n (report bound r.0 r.1) → Ends status o n (run_due bound r)
+pub run_ends : (end : RunEnd) (bound : ℕ) (r : Ran) {status : Status} {o n : SinkView} → status ≡ status_of end → (IsTrue (is_whole end) → end ≡ r.end) → Writes (is_whole end) o n (run_text shipped_meanings false bound r) → Ends status o n (run_due bound r)
 run_ends (Halted code steps) bound r e same w = inl (e ∙ ap status_of (same refl), w)
 run_ends budget_spent bound r e same w = inl (e ∙ ap status_of (same refl), w)
 run_ends (vector_fault id steps) bound r e same w = inl (e ∙ ap status_of (same refl), w)

@@ -1,5 +1,5 @@
 -- The cause of each status.
-use Rattle.std.specs.Prelude.{◌≡◌, ℕ, ◌+◌, ◌<◌, ◌≤◌, true, List, length, Some, None, option_map, take, IfSome}
+use Rattle.std.specs.Prelude.{◌≡◌, ℕ, ◌+◌, ◌<◌, ◌≤◌, true, List, [], length, Some, None, option_map, take, IfSome}
 use Rattle.board_outside.specs.Counts.{Rose}
 use Rattle.board_outside.specs.Shelf.{ShelfView, file_at, KeepsCounts}
 use Rattle.board_outside.specs.Sink.{SinkView, Writes}
@@ -27,7 +27,7 @@ pub record Gave (words : List (List ℕ)) (shelf : ShelfView) : Type 0 where
 pub record RanTo (ended : RunEnd → Type 0) (words : List (List ℕ)) (shelf : ShelfView) : Type 0 where
   pub gave : Gave words shelf
   pub short : length gave.image ≤ image_limit
-  pub end : ended (run_of shipped_meanings gave.bound (loaded gave.image)).0
+  pub end : ended (run_of shipped_meanings [] gave.bound (loaded gave.image)).end
 
 -- the file was given, and it is longer than its limit
 pub record IsTooLarge (words : List (List ℕ)) (shelf : ShelfView) : Type 0 where

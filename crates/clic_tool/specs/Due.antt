@@ -1,12 +1,12 @@
 -- The text and the status that are due.
-use Rattle.std.specs.Prelude.{ℕ, ◌+◌, List, [], ◌∷◌, length, nat_lt, if◌then◌else◌, Option, Some, None}
+use Rattle.std.specs.Prelude.{false, ℕ, ◌+◌, List, [], ◌∷◌, length, nat_lt, if◌then◌else◌, Option, Some, None}
 use Rattle.board_outside.specs.declared.shelf.ShelfFault.{ShelfFault}
 use Rattle.board_outside.specs.declared.shelf.ShelfFault.TheVariants.{Absent as absent, Failed as failed, Memory as memory}
 use Rattle.hart_memory.specs.Access.{with_byte}
 use Rattle.hart_board.specs.State.{State}
 use Rattle.clic_tool.specs.Shipped.{shipped_meanings, shipped_board}
-use Rattle.hart_board.specs.Run.{run_of}
-use Rattle.hart_board.specs.Report.{report}
+use Rattle.hart_board.specs.Run.{Ran, run_of}
+use Rattle.hart_board.specs.Text.{run_text}
 use Rattle.hart_board.specs.declared.run_end.RunEnd.{RunEnd}
 use Rattle.hart_board.specs.declared.run_end.RunEnd.TheVariants.{Halted, BudgetSpent as budget_spent, VectorFault as vector_fault, SinkFailed as sink_failed}
 use Rattle.clic_tool.specs.Lines.{usage_line, too_large_line, absent_line, failed_line}
@@ -42,16 +42,16 @@ status_of budget_spent = BudgetSpent
 status_of (vector_fault id steps) = VectorFault
 status_of sink_failed = SinkFailed
 
--- a run that ended so, in that state
-abbrev pub run_due : ℕ → RunEnd × State → Due
-run_due bound r = record { text = report bound r.0 r.1; status = status_of r.0 }
+-- a run, without a trace
+abbrev pub run_due : ℕ → Ran → Due
+run_due bound r = record { text = run_text shipped_meanings false bound r; status = status_of r.end }
 
--- a run of an image of these bytes
+-- a run of an image of these bytes, with no event
 unfoldable pub image_due : List ℕ → ℕ → Due
 image_due image bound =
     if nat_lt image_limit (length image)
     then record { text = too_large_line; status = Refused }
-    else run_due bound (run_of shipped_meanings bound (loaded image))
+    else run_due bound (run_of shipped_meanings [] bound (loaded image))
 
 -- a run of the file of that name, as the shelf holds it
 abbrev pub held_due : List ℕ → Option (List ℕ) → ℕ → Due

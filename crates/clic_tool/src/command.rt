@@ -1,11 +1,11 @@
 // The command.
-ghost use Rattle.std.specs.Prelude.{◌≡◌, ℕ, ◌≤◌, ◌<◌, true, length, if◌then◌else◌, List, [], Result, is_ok, IsTrue, IfSome, IfOk};
+ghost use Rattle.std.specs.Prelude.{◌≡◌, ℕ, ◌≤◌, ◌<◌, true, false, length, if◌then◌else◌, List, [], Result, is_ok, IsTrue, IfSome, IfOk};
 ghost use Rattle.board_outside.specs.Counts.{Rose};
 ghost use Rattle.board_outside.specs.Shelf.{file_at};
 ghost use Rattle.board_outside.specs.Sink.{Writes};
 ghost use Rattle.board_outside.specs.declared.shelf.ShelfFault.{ShelfFault};
 ghost use Rattle.hart_board.specs.Run.{run_of, is_whole};
-ghost use Rattle.hart_board.specs.Report.{report};
+ghost use Rattle.hart_board.specs.Text.{run_text};
 ghost use Rattle.clic_tool.specs.Shipped.{shipped_meanings, shipped_board};
 ghost use Rattle.hart_board.specs.declared.run_end.RunEnd.TheVariants.{BudgetSpent, VectorFault};
 ghost use Rattle.clic_tool.specs.Words.{IsRun, IsNoCommand};
@@ -19,7 +19,7 @@ use crate::writing::{put_named, put_too_large, put_usage};
 use board_devices::{AllDevices, shipped};
 use board_outside::{Shelf, ShelfFault, Sink, SinkFault, Words};
 use device_model::Device;
-use hart_board::{Board, RunEnd, run};
+use hart_board::{Board, Events, RunEnd, run};
 use hart_words::WantOfMemory;
 use std::alloc::Global;
 
@@ -67,14 +67,19 @@ fn new_board(alloc: Global) -> Result<Board<AllDevices>, WantOfMemory>
     Board::new(alloc, devices)
 }
 
-// Runs the board with the shipped devices.
+// Runs the board with the shipped devices, with no event and no trace.
 #[tactic(auto, unfolding(crate::specs::Shipped::shipped_meanings))]
-fn run_shipped<W: Sink>(board: &mut Board<AllDevices>, bound: u64, out: &mut W) -> RunEnd
-    ensures end { IsTrue (is_whole result) → result ≡ (run_of shipped_meanings bound board.old).0 }
-    ensures text { let due = run_of shipped_meanings bound board.old in
-        Writes (is_whole result) (W.told out.old) (W.told out.new) (report bound due.0 due.1) }
+fn run_shipped<W: Sink>(
+    alloc: Global,
+    board: &mut Board<AllDevices>,
+    bound: u64,
+    out: &mut W,
+) -> RunEnd
+    ensures end { IsTrue (is_whole result) → result ≡ (run_of shipped_meanings [] bound board.old).end }
+    ensures text { Writes (is_whole result) (W.told out.old) (W.told out.new) (run_text shipped_meanings false bound (run_of shipped_meanings [] bound board.old)) }
 {
-    run(board, bound, out)
+    let none = Events::new(alloc);
+    run(board, &none, bound, false, out)
 }
 
 // Runs an image of these bytes.
@@ -89,7 +94,7 @@ fn run_image<W: Sink>(alloc: Global, image: &[u8], bound: u64, out: &mut W) -> S
         Err(_) => return Status::Memory,
     };
     place_all(&mut board, image);
-    let end = run_shipped(&mut board, bound, out);
+    let end = run_shipped(alloc, &mut board, bound, out);
     status_of_end(&end)
 }
 

@@ -1,4 +1,4 @@
-use Rattle.std.proofs.Common.{◌≡◌, length, true, false, nat_lt, inl, arith}
+use Rattle.std.proofs.Common.{◌≡◌, [], length, true, false, nat_lt, inl, arith}
 use Rattle.std.proofs.lemmas.Bool.Decides.{nat_tests}
 use Rattle.hart_board.specs.Run.{run_of}
 use Rattle.clic_tool.specs.Shipped.{shipped_meanings}
@@ -19,4 +19,4 @@ unfolding image_due
 returns g c =
     let small : nat_lt 65536 (length c.args.image.now) ≡ false = grind (arith, nat_tests, c.if-image-gt-IMAGE_LIMIT.false) in
     rw (small, ← c.in-Ok.ensures, ← c.place_all.ensures)
-    (inl (run_ends c.run_shipped-end.result c.args.bound (run_of shipped_meanings c.args.bound c.place_all.new.board) c.status_of_end.ensures c.run_shipped-end.ensures.end c.run_shipped-end.ensures.text))
+    (inl (run_ends c.run_shipped-end.result c.args.bound (run_of shipped_meanings [] c.args.bound c.place_all.new.board) c.status_of_end.ensures c.run_shipped-end.ensures.end c.run_shipped-end.ensures.text))
