@@ -4,6 +4,8 @@
 #[cfg(test)]
 mod board_tests;
 mod command;
+#[cfg(test)]
+mod run_tests;
 mod status;
 #[cfg(test)]
 mod tests;

@@ -42,6 +42,16 @@ x28 00000000\n\
 x29 00000000\n\
 x30 00000000\n\
 x31 00000000\n\
+mstatus 00001800\n\
+mtvec 00000003\n\
+mtvt 00000000\n\
+mscratch 00000000\n\
+mepc 00000000\n\
+mcause 30000000\n\
+mtval 00000000\n\
+mintstatus 00000000\n\
+mintthresh 00000000\n\
+out 0\n\
 ";
 
 const USAGE: &[u8] = b"usage: clic_tool asm | disasm | run | chain | monitor | gen\n";
@@ -185,13 +195,13 @@ fn a_whole_rom_and_one_byte_more(rt: HostRuntime) -> Result<(), Fail> {
     Ok(())
 }
 
-// The report is 34 puts, one for each line.
+// The report is 44 puts, one for each line.
 #[test]
 fn each_put_fails_in_turn(rt: HostRuntime) -> Result<(), Fail> {
     let words = ["run", "first.bin", "100"];
-    for put in 1..=35 {
+    for put in 1..=45 {
         let (status, out) = answered(rt.alloc(), &words, &HALTS, NEVER, put, 4096)?;
-        let want = if put <= 34 {
+        let want = if put <= 44 {
             Status::SinkFailed
         } else {
             Status::Done
