@@ -1,0 +1,4 @@
+pub mod Segments
+pub mod SegmentLoop
+pub mod ImageAgain
+pub mod ImageFound
