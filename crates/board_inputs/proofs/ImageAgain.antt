@@ -1,6 +1,6 @@
 -- The file of an image is read as that image.
-use Rattle.std.proofs.Common.{◌≡◌, ℕ, zero, suc, ◌+◌, ◌<◌, ◌≤◌, ◌^◌, List, [], ◌∷◌, ◌++◌, length, length-append, length-drop, take, drop, true, false, Result, Ok, Err, refl, sym, ap, subst, ◌∙◌, arith, lit<, append_assoc, append-nil}
-use Rattle.std.specs.Prelude.{nat_lt, nat_eq, IfOk}
+use Rattle.std.proofs.Common.{◌≡◌, ℕ, ◌+◌, ◌<◌, ◌≤◌, ◌^◌, List, [], ◌∷◌, ◌++◌, length, length-append, length-drop, take, drop, false, Result, Ok, Err, refl, sym, ap, subst, ◌∙◌, arith, lit<, append_assoc, append-nil}
+use Rattle.std.specs.Prelude.{nat_lt, IfOk}
 use Rattle.std.proofs.lemmas.Bool.{le-ltb}
 use Rattle.std.proofs.lemmas.List.{take_at, drop_at, drop-drop}
 use Rattle.byteorder.specs.Endian.{little_number, little_bytes}

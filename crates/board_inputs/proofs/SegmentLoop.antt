@@ -1,9 +1,9 @@
 -- Reading one segment after the other.
-use Rattle.std.proofs.Common.{◌≡◌, ℕ, zero, suc, ◌+◌, ◌-◌, ◌<◌, ◌≤◌, List, [], ◌∷◌, ◌++◌, length, length-append, length-drop, length-take, take, drop, true, false, cond, Result, Ok, Err, refl, sym, ap, ◌∙◌, arith}
+use Rattle.std.proofs.Common.{◌≡◌, ℕ, suc, ◌+◌, ◌-◌, ◌<◌, ◌≤◌, List, [], ◌∷◌, ◌++◌, length, length-append, length-drop, length-take, take, drop, true, false, cond, Ok, Err, refl, sym, ap, ◌∙◌, arith}
 use Rattle.std.specs.Prelude.{nat_lt}
 use Rattle.std.proofs.lemmas.Bool.{le-ltb}
 use Rattle.hart_memory.specs.Image.{SegmentView, ImageView, meets_any}
-use Rattle.board_inputs.specs.ImageReading.{Fails, Fault, AddsSegment, is_placed, field_at, segment_at, segments_from}
+use Rattle.board_inputs.specs.ImageReading.{Fails, AddsSegment, is_placed, field_at, segment_at, segments_from}
 use Rattle.board_inputs.specs.declared.image_error.ImageError.{ImageError}
 use Rattle.board_inputs.specs.declared.image_error.ImageError.TheVariants.{Memory, Refused}
 use Rattle.board_inputs.specs.declared.image_why.ImageWhy.TheVariants.{Trailing}

@@ -1,3 +1,9 @@
 pub mod InTurn
 pub mod ImageFile
 pub mod ImageReading
+pub mod Spelling
+pub mod ScenarioFile
+pub mod Cuts
+pub mod Numbers
+pub mod Lines
+pub mod ScenarioReading

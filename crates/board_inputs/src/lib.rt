@@ -1,12 +1,23 @@
 // What comes from outside: image files and scenario files.
 #![tactic(auto)]
 
+mod cuts;
 mod image_error;
 mod image_reading;
 mod image_why;
 mod image_writing;
+pub mod laws;
+mod line_meaning;
+mod lines;
+mod numbers;
+mod scenario_error;
+mod scenario_reading;
+mod scenario_why;
 
 pub use image_error::ImageError;
 pub use image_reading::read_image;
 pub use image_why::ImageWhy;
 pub use image_writing::write_image;
+pub use scenario_error::ScenarioError;
+pub use scenario_reading::{MAX_EVENTS, read_scenario};
+pub use scenario_why::ScenarioWhy;
