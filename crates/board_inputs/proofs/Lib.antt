@@ -10,3 +10,5 @@ pub mod LineTold
 pub mod LinePassed
 pub mod LineLoop
 pub mod Scenario
+pub mod Placing
+pub mod Loading

@@ -7,3 +7,4 @@ pub mod Cuts
 pub mod Numbers
 pub mod Lines
 pub mod ScenarioReading
+pub mod ImageLoading

@@ -3,6 +3,7 @@
 
 mod cuts;
 mod image_error;
+mod image_loading;
 mod image_reading;
 mod image_why;
 mod image_writing;
@@ -15,6 +16,7 @@ mod scenario_reading;
 mod scenario_why;
 
 pub use image_error::ImageError;
+pub use image_loading::load_image;
 pub use image_reading::read_image;
 pub use image_why::ImageWhy;
 pub use image_writing::write_image;
