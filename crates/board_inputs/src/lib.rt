@@ -5,6 +5,8 @@ mod cuts;
 mod image_error;
 mod image_loading;
 mod image_reading;
+#[cfg(test)]
+mod image_tests;
 mod image_why;
 mod image_writing;
 pub mod laws;
@@ -13,6 +15,8 @@ mod lines;
 mod numbers;
 mod scenario_error;
 mod scenario_reading;
+#[cfg(test)]
+mod scenario_tests;
 mod scenario_why;
 
 pub use image_error::ImageError;
