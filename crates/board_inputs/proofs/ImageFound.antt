@@ -10,7 +10,7 @@ use Rattle.hart_memory.specs.declared.image.TheConstants.{MAX_SEGMENTS}
 use Rattle.hart_memory.proofs.ImageLemmas.{sound_push}
 use Rattle.board_inputs.specs.InTurn.{◌>>=◌}
 use Rattle.board_inputs.specs.ImageFile.{IsImageFile, segment_text, segments_text, image_text}
-use Rattle.board_inputs.specs.ImageReading.{at_place, Fault, Gives, is_placed, field_at, magic, magic_at, segment_at, segments_from, image_of}
+use Rattle.board_inputs.specs.ImageReading.{at_place, Fault, Gives, is_placed, field_at, magic, magic_at, end_at, segment_at, segments_from, image_of}
 use Rattle.board_inputs.specs.declared.image_why.ImageWhy.TheVariants.{BadMagic, Truncated, OutsideMemory, Overlap, TooMany, Trailing}
 use Rattle.board_inputs.specs.declared.image_error.ImageError.{ImageError}
 use Rattle.board_inputs.proofs.Segments.{placed_by_test, IsNext}
@@ -132,9 +132,10 @@ segments_took : (n place : ℕ) (all before : List SegmentView) (bytes : List �
     → segments_from n place before bytes ≡ Ok all → TookAll n place all before bytes
 unfolding segments_from
 segments_took zero place all before bytes fits le sound few e =
-    let g = guard_ok (nat_lt place (length bytes)) (record { place = place; why = Trailing }) (Ok before) all e in
+    let b = bind_ok (end_at place bytes) (λ done. Ok before) all e in
+    let g = guard_ok (nat_lt place (length bytes)) (record { place = place; why = Trailing }) (Ok tt) b.0 b.1 in
     let end : length bytes ≤ place = ltb-false _ _ g.0 in
-    let same : before ≡ all = ok_is _ _ g.1 in
+    let same : before ≡ all = ok_is _ _ b.2 in
     let nothing : drop place bytes ≡ [] = nil_from_length (drop place bytes) (omega (arith, length-drop place bytes)) in
     record { segments = []; all_are = sym same ∙ sym (append-nil before); count = refl; sound = subst AreSound same sound; text = nothing }
 segments_took (suc n) place all before bytes fits le sound few e =

@@ -1,12 +1,12 @@
 -- Reading one segment after the other.
-use Rattle.std.proofs.Common.{◌≡◌, ℕ, suc, ◌+◌, ◌-◌, ◌<◌, ◌≤◌, List, [], ◌∷◌, ◌++◌, length, length-append, length-drop, length-take, take, drop, true, false, cond, Ok, Err, refl, sym, ap, ◌∙◌, arith}
+use Rattle.std.proofs.Common.{◌≡◌, ℕ, suc, ◌+◌, ◌-◌, ◌<◌, ◌≤◌, List, [], ◌∷◌, ◌++◌, length, length-append, length-drop, length-take, take, drop, true, false, Result, Ok, Err, refl, sym, ap, subst, ◌∙◌, arith}
 use Rattle.std.specs.Prelude.{nat_lt}
 use Rattle.std.proofs.lemmas.Bool.{le-ltb}
 use Rattle.hart_memory.specs.Image.{SegmentView, ImageView, meets_any}
-use Rattle.board_inputs.specs.ImageReading.{Fails, AddsSegment, is_placed, field_at, segment_at, segments_from}
+use Rattle.board_inputs.specs.InTurn.{◌>>=◌}
+use Rattle.board_inputs.specs.ImageReading.{Fails, Gives, AddsSegment, AddsSegments, is_placed, field_at, end_at, segment_at, segments_from}
 use Rattle.board_inputs.specs.declared.image_error.ImageError.{ImageError}
 use Rattle.board_inputs.specs.declared.image_error.ImageError.TheVariants.{Memory, Refused}
-use Rattle.board_inputs.specs.declared.image_why.ImageWhy.TheVariants.{Trailing}
 
 -- reading on from a place, after i of count segments, gives what reading all of them gives
 pub record ReadsOn (start now : ImageView) (count i place : ℕ) (bytes : List ℕ) : Type 0 where
@@ -36,13 +36,19 @@ fails (Refused at why) start now count i place bytes lt h f =
     let one : segments_from (count - i) place now.segments bytes ≡ Err (record { place = at; why = why }) = rw (k, f) refl in
     sym h.rest ∙ one
 
-pub ended : (start now : ImageView) (count i place : ℕ) (bytes : List ℕ) → count ≤ i → ReadsOn start now count i place bytes
-    → segments_from count 12 [] bytes ≡ cond (nat_lt place (length bytes)) (Err (record { place = place; why = Trailing })) (Ok now.segments)
+end_gives : (start now : ImageView) (place : ℕ) (bytes : List ℕ) (r : Result (Unit {0}) ImageError) → now.start ≡ start.start → Gives (λ done. done) r (end_at place bytes)
+    → AddsSegments start now r (end_at place bytes >>= λ done. Ok now.segments)
+end_gives start now place bytes (Ok done) same g = (rw g refl, same)
+end_gives start now place bytes (Err Memory) same g = tt
+end_gives start now place bytes (Err (Refused at why)) same g = rw g refl
+
+pub ended : (start now : ImageView) (count i place : ℕ) (bytes : List ℕ) (r : Result (Unit {0}) ImageError) → count ≤ i → ReadsOn start now count i place bytes
+    → Gives (λ done. done) r (end_at place bytes) → AddsSegments start now r (segments_from count 12 [] bytes)
 unfolding segments_from
-ended start now count i place bytes le h =
+ended start now count i place bytes r le h g =
     let k : count - i ≡ 0 = omega arith in
-    let one : segments_from (count - i) place now.segments bytes ≡ cond (nat_lt place (length bytes)) (Err (record { place = place; why = Trailing })) (Ok now.segments) = rw k refl in
-    sym h.rest ∙ one
+    let one : segments_from (count - i) place now.segments bytes ≡ end_at place bytes >>= λ done. Ok now.segments = rw k refl in
+    subst (AddsSegments start now r) (sym one ∙ h.rest) (end_gives start now place bytes r h.entry g)
 
 -- a segment whose tests all pass
 pub segment_is : (place at count : ℕ) (before : List SegmentView) (bytes content : List ℕ) → field_at place bytes ≡ Ok at → field_at (place + 4) bytes ≡ Ok count

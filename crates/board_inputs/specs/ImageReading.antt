@@ -43,9 +43,13 @@ segment_at place before bytes = do
       else (if nat_lt (length bytes) (place + 8 + count) then at_place (place + 8) Truncated
       else Ok (record { address = at; content = take count (drop (place + 8) bytes) })))
 
--- so many segments from a place on, after those before them; nothing follows them
+-- the file ends at a place
+abbrev pub end_at : ℕ → List ℕ → Result (Unit {0}) Fault
+end_at place bytes = if nat_lt place (length bytes) then at_place place Trailing else Ok tt
+
+-- so many segments from a place on, after those before them, and nothing behind them
 unfoldable pub segments_from : ℕ → ℕ → List SegmentView → List ℕ → Result (List SegmentView) Fault
-segments_from zero place before bytes = if nat_lt place (length bytes) then at_place place Trailing else Ok before
+segments_from zero place before bytes = end_at place bytes >>= λ done. Ok before
 segments_from (suc n) place before bytes = segment_at place before bytes >>= λ s. segments_from n (place + 8 + length s.content) (before ++ s ∷ []) bytes
 
 -- the letters, the entry, the number of segments, the segments

@@ -3,7 +3,7 @@ ghost use Rattle.std.specs.Prelude.{◌≡◌, ℕ, ◌+◌, ◌<◌, ◌≤◌,
 ghost use Rattle.hart_memory.specs.Image.{ImageView};
 ghost use Rattle.hart_memory.specs.declared.image.TheConstants.{MAX_SEGMENTS};
 ghost use Rattle.board_inputs.specs.ImageFile.{IsImageFile};
-ghost use Rattle.board_inputs.specs.ImageReading.{Gives, AddsSegment, AddsSegments, is_placed, field_at, magic_at, segment_at, segments_from, image_of};
+ghost use Rattle.board_inputs.specs.ImageReading.{Gives, AddsSegment, AddsSegments, is_placed, field_at, magic_at, end_at, segment_at, segments_from, image_of};
 ghost use Rattle.board_inputs.specs.declared.image_error.ImageError.TheVariants.{Refused};
 
 use crate::image_error::ImageError;
@@ -77,6 +77,16 @@ fn read_segment(bytes: &[u8], place: u32, image: &mut Image) -> Result<u32, Imag
     Ok(first + count)
 }
 
+// Refuses bytes that stand where the file is to end.
+fn check_end(bytes: &[u8], place: u32) -> Result<(), ImageError>
+    ensures { Gives (λ done. done) result (end_at place bytes.now) }
+{
+    if bytes.len() > place as usize {
+        return refused(place, ImageWhy::Trailing);
+    }
+    Ok(())
+}
+
 // Reads the segments of an image that has none yet.
 fn read_segments(bytes: &[u8], count: u32, image: &mut Image) -> Result<(), ImageError>
     requires short { length bytes.now < 2 ^ 32 }
@@ -88,10 +98,7 @@ fn read_segments(bytes: &[u8], count: u32, image: &mut Image) -> Result<(), Imag
     for _ in 0..count {
         place = read_segment(bytes, place, image)?;
     }
-    if bytes.len() > place as usize {
-        return refused(place, ImageWhy::Trailing);
-    }
-    Ok(())
+    check_end(bytes, place)
 }
 
 #[tactic(auto, unfolding(crate::specs::ImageReading::image_of))]

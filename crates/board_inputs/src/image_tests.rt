@@ -1,7 +1,7 @@
 use super::*;
 use board_devices::shipped;
 use hart_board::Board;
-use hart_memory::Image;
+use hart_memory::{Image, place_of};
 use std::alloc::Global;
 use std::process::Abort;
 use std::test::Fail;
@@ -129,8 +129,9 @@ fn two_segments(rt: HostRuntime) -> Result<(), Fail> {
 // Loads 5 into a0 and halts with it; the second segment is in RAM.
 fn small_image(rt: &impl Abort, alloc: Global) -> Result<Image, Fail> {
     let mut image = Image::new(alloc, 0x201);
-    assert!(rt; !image.meets(0, 4));
+    assert!(rt; place_of(0, 4).is_in_memory());
     image.add(0, b"\x13\x05\x50\0")?;
+    assert!(rt; place_of(0x2000_FFFE, 2).is_in_memory());
     assert!(rt; !image.meets(0x2000_FFFE, 2));
     assert!(rt; image.len() < 64);
     image.add(0x2000_FFFE, b"\xAB\xCD")?;
