@@ -10,5 +10,6 @@ pub mod LineTold
 pub mod LinePassed
 pub mod LineLoop
 pub mod Scenario
+pub mod ScenarioFault
 pub mod Placing
 pub mod Loading

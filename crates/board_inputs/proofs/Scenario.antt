@@ -6,12 +6,11 @@ use Rattle.hart_board.specs.Event.{last_count}
 use Rattle.hart_board.specs.declared.event.Event.{Event}
 use Rattle.board_inputs.specs.InTurn.{◌>>=◌}
 use Rattle.board_inputs.specs.Spelling.{IsPassed, Spells}
-use Rattle.board_inputs.specs.ScenarioFile.{lines_of, Tell, AreInOrder, IsScenarioFile}
+use Rattle.board_inputs.specs.ScenarioFile.{lines_of, Tell, AreInOrder, IsScenarioFile, most_events}
 use Rattle.board_inputs.specs.Lines.{meaning_of}
 use Rattle.board_inputs.specs.ScenarioReading.{Fault, Gives, in_line, with_event, with_meaning, with_line, with_lines, scenario_of}
 use Rattle.board_inputs.specs.declared.line_meaning.LineMeaning.{LineMeaning}
 use Rattle.board_inputs.specs.declared.line_meaning.LineMeaning.TheVariants.{Passed, Bad, Told}
-use Rattle.board_inputs.specs.declared.scenario_reading.TheConstants.{MAX_EVENTS}
 use Rattle.board_inputs.specs.declared.scenario_why.ScenarioWhy.TheVariants.{OutOfOrder, TooMany}
 use Rattle.board_inputs.specs.declared.scenario_error.ScenarioError.{ScenarioError}
 use Rattle.board_inputs.proofs.LineAgain.{line_again}
@@ -28,13 +27,13 @@ order_last n [] e es h = h.0
 order_last n (x ∷ xs) e es h = order_last x.at xs e es h.1
 
 -- ---- what a file tells is read
-event_added : (e : Event) (n : ℕ) (before : List Event) → last_count 0 before ≤ e.at → length before < MAX_EVENTS → with_event e n before ≡ Ok (before ++ e ∷ [])
+event_added : (e : Event) (n : ℕ) (before : List Event) → last_count 0 before ≤ e.at → length before < most_events → with_event e n before ≡ Ok (before ++ e ∷ [])
 event_added e n before order few =
     let late : nat_lt e.at (last_count 0 before) ≡ false = le-ltb _ _ order in
-    let room : nat_le MAX_EVENTS (length before) ≡ false = lt-leb _ _ few in
+    let room : nat_le most_events (length before) ≡ false = lt-leb _ _ few in
     rw (late, room) refl
 
-lines_again : (inputs : ℕ) (lines : List (List ℕ)) (n : ℕ) (before es : List Event) → inputs < 2 ^ 32 → Tell inputs lines es → AreInOrder 0 (before ++ es) → length (before ++ es) ≤ MAX_EVENTS
+lines_again : (inputs : ℕ) (lines : List (List ℕ)) (n : ℕ) (before es : List Event) → inputs < 2 ^ 32 → Tell inputs lines es → AreInOrder 0 (before ++ es) → length (before ++ es) ≤ most_events
     → with_lines inputs lines n before ≡ Ok (before ++ es)
 unfolding with_lines with_line
 lines_again inputs [] n before es few h order room = rw h (ap (λ (l : List Event). Ok l) (sym (append-nil before)))
@@ -47,7 +46,7 @@ lines_again inputs (line ∷ lines) n before es few h order room = elim h [
       let ordered : AreInOrder 0 (before ++ e ∷ rest) = subst (λ (l : List Event). AreInOrder 0 (before ++ l)) t.2 order in
       let size : length (before ++ es) ≡ length before + (length rest + 1) = ap (λ (l : List Event). length (before ++ l)) t.2 ∙ omega (arith, length-append before (e ∷ rest)) in
       let added = event_added e n before (order_last 0 before e rest ordered) (omega (arith, size, room)) in
-      let more = lines_again inputs lines (n + 1) (before ++ e ∷ []) rest few t.4 (subst (AreInOrder 0) (sym joined) order) (subst (λ (l : List Event). length l ≤ MAX_EVENTS) (sym joined) room) in
+      let more = lines_again inputs lines (n + 1) (before ++ e ∷ []) rest few t.4 (subst (AreInOrder 0) (sym joined) order) (subst (λ (l : List Event). length l ≤ most_events) (sym joined) room) in
       rw (line_again inputs line e few t.3, added) (more ∙ ap (λ (l : List Event). Ok l) joined)
 ]
 
@@ -71,20 +70,20 @@ bind_ok (Ok x) f y e = (x, refl, e)
 bind_ok (Err d) f y e = absurd cc
 
 -- what a line adds
-abbrev Adds : ℕ → List ℕ → List Event → List Event → Type 0
+abbrev pub Adds : ℕ → List ℕ → List Event → List Event → Type 0
 Adds inputs line before next =
     (IsPassed line × (next ≡ before))
-    ⊎ ((e : Event) × Spells inputs line e × (next ≡ before ++ e ∷ []) × (last_count 0 before ≤ e.at) × (length before < MAX_EVENTS))
+    ⊎ ((e : Event) × Spells inputs line e × (next ≡ before ++ e ∷ []) × (last_count 0 before ≤ e.at) × (length before < most_events))
 
 added_by : (inputs : ℕ) (line : List ℕ) (m : LineMeaning) (n : ℕ) (before next : List Event) → inputs < 2 ^ 32 → meaning_of inputs line ≡ m → with_meaning m n before ≡ done next → Adds inputs line before next
 added_by inputs line Passed n before next few is e = inl (passed_is inputs line is, sym (done_is before next e))
 added_by inputs line Bad n before next few is e = absurd cc
 added_by inputs line (Told ev) n before next few is e =
-    let g = guard_ok (nat_lt ev.at (last_count 0 before)) (record { line = n; why = OutOfOrder }) (cond (nat_le MAX_EVENTS (length before)) (in_line n TooMany) (Ok (before ++ ev ∷ []))) next e in
-    let t = guard_ok (nat_le MAX_EVENTS (length before)) (record { line = n; why = TooMany }) (Ok (before ++ ev ∷ [])) next g.1 in
+    let g = guard_ok (nat_lt ev.at (last_count 0 before)) (record { line = n; why = OutOfOrder }) (cond (nat_le most_events (length before)) (in_line n TooMany) (Ok (before ++ ev ∷ []))) next e in
+    let t = guard_ok (nat_le most_events (length before)) (record { line = n; why = TooMany }) (Ok (before ++ ev ∷ [])) next g.1 in
     inr (ev, line_told inputs line ev few is, sym (done_is (before ++ ev ∷ []) next t.1), ltb-false _ _ g.0, leb-false _ _ t.0)
 
-line_took : (inputs : ℕ) (line : List ℕ) (n : ℕ) (before next : List Event) → inputs < 2 ^ 32 → with_line inputs line n before ≡ Ok next → Adds inputs line before next
+pub line_took : (inputs : ℕ) (line : List ℕ) (n : ℕ) (before next : List Event) → inputs < 2 ^ 32 → with_line inputs line n before ≡ Ok next → Adds inputs line before next
 unfolding with_line
 line_took inputs line n before next few e = added_by inputs line (meaning_of inputs line) n before next few refl e
 
@@ -93,13 +92,13 @@ pub record TookLines (inputs : ℕ) (lines : List (List ℕ)) (before all : List
   pub all_are : all ≡ before ++ events
   pub tell : Tell inputs lines events
   pub order : AreInOrder 0 all
-  pub few : length all ≤ MAX_EVENTS
+  pub few : length all ≤ most_events
 
-lines_took : (inputs : ℕ) (lines : List (List ℕ)) (n : ℕ) (before all : List Event) → inputs < 2 ^ 32 → AreInOrder 0 before → length before ≤ MAX_EVENTS → with_lines inputs lines n before ≡ Ok all → TookLines inputs lines before all
+lines_took : (inputs : ℕ) (lines : List (List ℕ)) (n : ℕ) (before all : List Event) → inputs < 2 ^ 32 → AreInOrder 0 before → length before ≤ most_events → with_lines inputs lines n before ≡ Ok all → TookLines inputs lines before all
 unfolding with_lines
 lines_took inputs [] n before all few order room e =
     let same : before ≡ all = done_is before all e in
-    record { events = []; all_are = sym same ∙ sym (append-nil before); tell = refl; order = subst (AreInOrder 0) same order; few = subst (λ (l : List Event). length l ≤ MAX_EVENTS) same room }
+    record { events = []; all_are = sym same ∙ sym (append-nil before); tell = refl; order = subst (AreInOrder 0) same order; few = subst (λ (l : List Event). length l ≤ most_events) same room }
 lines_took inputs (line ∷ lines) n before all few order room e =
     let b = bind_ok (with_line inputs line n before) (λ es. with_lines inputs lines (n + 1) es) all e in
     let next = b.0 in

@@ -6,5 +6,6 @@ pub mod ScenarioFile
 pub mod Cuts
 pub mod Numbers
 pub mod Lines
+pub mod FirstWrong
 pub mod ScenarioReading
 pub mod ImageLoading

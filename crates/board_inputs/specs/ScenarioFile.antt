@@ -3,7 +3,6 @@ use Rattle.std.specs.Prelude.{◌≡◌, ℕ, ◌==◌, ◌≤◌, ◌⊎◌, Li
 use Rattle.std.specs.List.{slice_split}
 use Rattle.hart_board.specs.declared.event.Event.{Event}
 use Rattle.board_inputs.specs.Spelling.{IsPassed, Spells}
-use Rattle.board_inputs.specs.declared.scenario_reading.TheConstants.{MAX_EVENTS}
 
 -- the lines are what stands before, between and behind the line feeds
 abbrev pub lines_of : List ℕ → List (List ℕ)
@@ -19,8 +18,12 @@ abbrev pub AreInOrder : ℕ → List Event → Type 0
 AreInOrder n [] = ⊤
 AreInOrder n (e ∷ es) = (n ≤ e.at) × AreInOrder e.at es
 
+-- so many events a scenario has at most
+abbrev pub most_events : ℕ
+most_events = 65_536
+
 -- the bytes are a file of these events
 pub record IsScenarioFile (inputs : ℕ) (bytes : List ℕ) (es : List Event) : Type 0 where
   pub lines : Tell inputs (lines_of bytes) es
   pub order : AreInOrder 0 es
-  pub few : length es ≤ MAX_EVENTS
+  pub few : length es ≤ most_events

@@ -3,11 +3,10 @@ use Rattle.std.specs.Prelude.{◌≡◌, ℕ, ◌+◌, List, [], ◌∷◌, ◌+
 use Rattle.hart_board.specs.Event.{last_count}
 use Rattle.hart_board.specs.declared.event.Event.{Event}
 use Rattle.board_inputs.specs.InTurn.{◌>>=◌}
-use Rattle.board_inputs.specs.ScenarioFile.{lines_of}
+use Rattle.board_inputs.specs.ScenarioFile.{lines_of, most_events}
 use Rattle.board_inputs.specs.Lines.{meaning_of}
 use Rattle.board_inputs.specs.declared.line_meaning.LineMeaning.{LineMeaning}
 use Rattle.board_inputs.specs.declared.line_meaning.LineMeaning.TheVariants.{Passed, Bad, Told}
-use Rattle.board_inputs.specs.declared.scenario_reading.TheConstants.{MAX_EVENTS}
 use Rattle.board_inputs.specs.declared.scenario_why.ScenarioWhy.{ScenarioWhy}
 use Rattle.board_inputs.specs.declared.scenario_why.ScenarioWhy.TheVariants.{BadLine, OutOfOrder, TooMany}
 use Rattle.board_inputs.specs.declared.scenario_error.ScenarioError.{ScenarioError}
@@ -25,7 +24,7 @@ in_line n why = Err (record { line = n; why = why })
 abbrev pub with_event : Event → ℕ → List Event → Result (List Event) Fault
 with_event e n before =
     if nat_lt e.at (last_count 0 before) then in_line n OutOfOrder
-    else (if nat_le MAX_EVENTS (length before) then in_line n TooMany else Ok (before ++ e ∷ []))
+    else (if nat_le most_events (length before) then in_line n TooMany else Ok (before ++ e ∷ []))
 
 abbrev pub with_meaning : LineMeaning → ℕ → List Event → Result (List Event) Fault
 with_meaning Passed n before = Ok before

@@ -126,6 +126,27 @@ fn two_segments(rt: HostRuntime) -> Result<(), Fail> {
     Ok(())
 }
 
+// A segment that is a whole memory.
+fn add_whole_memory(bytes: &mut Vec<u8>, highest: u8, count: u32) -> Result<(), Fail> {
+    bytes.extend_from_slice(&[0, 0, 0, highest, 0, 0, 1, 0])?;
+    for _ in 0..count {
+        bytes.push(7)?;
+    }
+    Ok(())
+}
+
+#[test]
+fn both_memories_are_filled(rt: HostRuntime) -> Result<(), Fail> {
+    let mut rest = Vec::new(rt.alloc());
+    add_whole_memory(&mut rest, 0, 65_536)?;
+    add_whole_memory(&mut rest, 0x20, 65_535)?;
+    let cut = answer_after(&rt, rt.alloc(), 2, &rest)?;
+    assert_eq!(rt; cut, refused(65_564, ImageWhy::Truncated));
+    rest.push(7)?;
+    assert_eq!(rt; answer_after(&rt, rt.alloc(), 2, &rest)?, Ok(2));
+    Ok(())
+}
+
 // Loads 5 into a0 and halts with it; the second segment is in RAM.
 fn small_image(rt: &impl Abort, alloc: Global) -> Result<Image, Fail> {
     let mut image = Image::new(alloc, 0x201);

@@ -1,9 +1,10 @@
 // Reads a scenario.
-ghost use Rattle.std.specs.Prelude.{◌≡◌, ◌+◌, ◌<◌, ◌≤◌, ◌^◌, List, length, Ok, IfOk, IsTrue};
+ghost use Rattle.std.specs.Prelude.{◌≡◌, ◌+◌, ◌<◌, ◌≤◌, ◌^◌, List, length, Ok, IfOk, IfErr, IsTrue};
 ghost use Rattle.clic_regs.specs.declared.TheConstants.{INPUTS};
 ghost use Rattle.hart_board.specs.Event.{is_free, last_count};
 ghost use Rattle.hart_board.specs.declared.event.Event.{Event};
 ghost use Rattle.board_inputs.specs.ScenarioFile.{IsScenarioFile};
+ghost use Rattle.board_inputs.specs.FirstWrong.{RefusesFirst};
 ghost use Rattle.board_inputs.specs.ScenarioReading.{Gives, Becomes, with_event, with_line, scenario_of};
 
 use crate::cuts::cut_at;
@@ -96,7 +97,9 @@ pub fn read_scenario(alloc: Global, bytes: &[u8]) -> Result<Events, ScenarioErro
     ensures found { IfOk result (λ es. IsScenarioFile INPUTS bytes.now es) }
     // What a file tells is read, unless memory was wanting.
     ensures only { (es : List Event) → IsScenarioFile INPUTS bytes.now es → Gives result (Ok es) }
-    // Otherwise it is the first refusal, with its line.
+    // Otherwise it is the first line in which something is wrong, and what that is.
+    ensures first { IfErr result (λ e. RefusesFirst INPUTS bytes.now e) }
+    // All of it in one equation.
     ensures exact { Gives result (scenario_of INPUTS bytes.now) }
 {
     scenario_in(alloc, bytes, INPUTS)
