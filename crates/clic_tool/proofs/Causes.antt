@@ -1,285 +1,338 @@
 -- What a command's status says of what was done.
-use Rattle.std.proofs.Common.{◌≡◌, ℕ, ◌<◌, ◌≤◌, List, [], true, false, Result, Ok, Err, length, nat_lt, refl, arith, inl, inr, ◌⊎◌, ◌∙◌, sym, subst}
-use Rattle.std.proofs.lemmas.Bool.{cases_lt}
-use Rattle.std.proofs.lemmas.Bool.Decides.{nat_tests}
+use Rattle.std.proofs.Common.{◌≡◌, ◌∙◌, ℕ, ◌<◌, ◌≤◌, List, [], true, false, Option, Some, None, Result, Ok, Err, refl, sym, ap, subst, arith, inl, inr, ◌⊎◌}
 use Rattle.board_outside.specs.Counts.{Rose}
-use Rattle.board_outside.specs.Shelf.{ShelfView}
+use Rattle.board_outside.specs.Shelf.{ShelfView, KeepsCounts}
 use Rattle.board_outside.specs.Sink.{SinkView, Writes}
 use Rattle.board_outside.specs.declared.shelf.ShelfFault.{ShelfFault}
 use Rattle.board_outside.specs.declared.shelf.ShelfFault.TheVariants.{Absent as absent, Failed as failed, Memory as memory}
-use Rattle.hart_board.specs.State.{State}
-use Rattle.hart_board.specs.Run.{run_of, EndsAfter}
-use Rattle.hart_board.proofs.Leading.{run_ends_after}
+use Rattle.hart_memory.specs.Image.{ImageView}
+use Rattle.hart_board.specs.declared.event.Event.{Event}
 use Rattle.hart_board.specs.declared.run_end.RunEnd.{RunEnd}
-use Rattle.hart_board.specs.declared.run_end.RunEnd.TheVariants.{Halted, BudgetSpent as budget_spent, VectorFault as vector_fault, SinkFailed as sink_failed}
-use Rattle.device_model.specs.Meanings.{Meanings}
-use Rattle.clic_tool.specs.Shipped.{shipped_meanings}
-use Rattle.clic_tool.specs.Words.{IsRun, IsNoCommand}
-use Rattle.clic_tool.specs.Due.{Due, usage_due, image_due, status_of, loaded}
-use Rattle.clic_tool.specs.Answers.{Ends, EndsOrLacks, Misuses, Runs, Ran, Answers, IsCalm}
-use Rattle.clic_tool.specs.Causes.{NoneRose, Gave, RanTo, IsTooLarge, IsAbsent, HasFailed}
+use Rattle.hart_board.specs.declared.run_end.RunEnd.TheVariants.{BudgetSpent as budget_spent, VectorFault as vector_fault}
+use Rattle.clic_tool.specs.Shipped.{shipped_meanings, shipped_board}
+use Rattle.clic_tool.specs.Order.{Order}
+use Rattle.clic_tool.specs.Stages.{image_limit, image_stage, scenario_limit, scenario_stage}
+use Rattle.clic_tool.specs.Due.{Due, usage_due, memory_due, refusal_due, fault_due, run_due, run_made, status_of}
+use Rattle.clic_tool.specs.Answers.{Ends, Fetches, Passes, Stops, IsUngiven, IsRefused, PassesImage, PassesFiles, RunsWith, AfterImage, PassesOn, Reaches, Comes, DoesOrLacks, Answers, IsCalm}
+use Rattle.clic_tool.specs.Causes.{NoneRose, RanTo, AtFile, IsAbsentFile, IsFailedFile, IsAbsent, HasFailed, IsRefusedFile, IsRefusedScenario, IsRefusedRun}
+use Rattle.clic_tool.specs.declared.refusal.Refusal.{Refusal}
 use Rattle.clic_tool.specs.declared.status.Status.{Status}
 use Rattle.clic_tool.specs.declared.status.Status.TheVariants.{Done, BudgetSpent, Usage, Absent, ShelfFailed, Refused, SinkFailed, Memory, VectorFault}
-use Rattle.clic_tool.proofs.Calm.{never_rose, same_words}
+use Rattle.clic_tool.proofs.Held.{never_rose}
+use Rattle.clic_tool.proofs.Complete.{run_status}
+use Rattle.clic_tool.proofs.RunEnds.{never_sink_failed, is_end, is_stop, end_is_no_stop, end_is_no_usage, is_budget_spent, is_vector_fault, is_sink_failed}
 
--- how a run ends is neither usage, nor a refusal, nor a fault of the shelf, nor want of memory
-is_end : Status → Type 0
-is_end Done = Unit {0}
-is_end BudgetSpent = Unit {0}
-is_end SinkFailed = Unit {0}
-is_end VectorFault = Unit {0}
-is_end Usage = ⊥
-is_end Absent = ⊥
-is_end ShelfFailed = ⊥
-is_end Refused = ⊥
-is_end Memory = ⊥
+-- ---- how far a command came, by the status that is due
 
-status_is_end : (end : RunEnd) → is_end (status_of end)
-unfolding is_end
-status_is_end (Halted code steps) = tt
-status_is_end budget_spent = tt
-status_is_end (vector_fault id steps) = tt
-status_is_end sink_failed = tt
+-- the run was made, and ended with that status
+record RanSo (parsed : Option Order) (shelf shelf' : ShelfView) (s : Status) : Type 0 where
+  run : Order
+  is_run : parsed ≡ Some run
+  image : ImageView
+  events : List Event
+  files : PassesFiles run shelf shelf' image events
+  end : status_of (run_made image events run.bound_is).end ≡ s
 
-no_end : (end : RunEnd) (s : Status) → status_of end ≡ s → (is_end s → ⊥) → ⊥
-no_end end s e none = none (subst is_end e (status_is_end end))
+-- a file stopped the command
+record StoppedAt (parsed : Option Order) (shelf shelf' : ShelfView) (due : Due) : Type 0 where
+  run : Order
+  is_run : parsed ≡ Some run
+  at_file : Stops run.image_name image_limit image_stage shelf shelf' due
+      ⊎ ((between : ShelfView) × (image : ImageView) × PassesImage run shelf between image × Stops run.scenario_name scenario_limit scenario_stage between shelf' due)
 
-is_budget_spent : (end : RunEnd) → status_of end ≡ BudgetSpent → end ≡ budget_spent
-is_budget_spent (Halted code steps) e = cc
-is_budget_spent budget_spent e = refl
-is_budget_spent (vector_fault id steps) e = cc
-is_budget_spent sink_failed e = cc
+status_is : (due d : Due) → due ≡ d → due.status ≡ d.status
+status_is due d e = ap (λ (x : Due). x.status) e
 
-is_vector_fault : (end : RunEnd) → status_of end ≡ VectorFault → (id : ℕ) × (steps : ℕ) × (end ≡ vector_fault id steps)
-is_vector_fault (Halted code steps) e = cc
-is_vector_fault budget_spent e = cc
-is_vector_fault (vector_fault id steps) e = (id, steps, refl)
-is_vector_fault sink_failed e = cc
+-- a file that stopped the command has no status of a run's end, nor usage
+fault_no_end : (name : List ℕ) (fault : ShelfFault) → is_end (fault_due name fault).status → ⊥
+fault_no_end name absent h = h
+fault_no_end name failed h = h
+fault_no_end name memory h = h
 
-is_sink_failed : (end : RunEnd) → status_of end ≡ SinkFailed → end ≡ sink_failed
-is_sink_failed (Halted code steps) e = cc
-is_sink_failed budget_spent e = cc
-is_sink_failed (vector_fault id steps) e = cc
-is_sink_failed sink_failed e = refl
+stops_no_end : {A : Type 0} (name : List ℕ) (limit : ℕ) (stage : List ℕ → Result A Refusal) (shelf shelf' : ShelfView) (due : Due) (s : Status) → Stops name limit stage shelf shelf' due → due.status ≡ s → is_end s → ⊥
+stops_no_end name limit stage shelf shelf' due s (inl u) e h = fault_no_end name u.fault (subst is_end (sym e ∙ status_is due _ u.due_is) h)
+stops_no_end name limit stage shelf shelf' due s (inr r) e h = (subst is_end (sym e ∙ status_is due _ r.due_is) h)
 
--- a run's own end is never a sink's failure
-never_sink_failed : (m : Meanings) (bound : ℕ) (s : State) → (run_of m bound s).0 ≡ sink_failed → ⊥
-never_sink_failed m bound s e = subst (λ (end : RunEnd). EndsAfter m 0 bound s end (run_of m bound s).1) e (run_ends_after m bound s)
+after_ran : (run : Order) (image : ImageView) (shelf between shelf' : ShelfView) (due : Due) (s : Status) → PassesImage run shelf between image → AfterImage run image between shelf' due → due.status ≡ s → is_end s → RanSo (Some run) shelf shelf' s
+after_ran run image shelf between shelf' due s first (inl stops) e h = absurd (stops_no_end run.scenario_name scenario_limit scenario_stage between shelf' due s stops e h)
+after_ran run image shelf between shelf' due s first (inr runs) e h =
+    record {
+      run = run;
+      is_run = refl;
+      image = image;
+      events = runs.events;
+      files = record { between = between; image_passed = first; scenario_passed = runs.scenario_passed };
+      end = sym (run_status run image runs.events) ∙ sym (status_is due _ runs.due_is) ∙ e;
+    }
 
--- an image is too large, or it is run
-by_length : (image : List ℕ) (bound : ℕ) → (((image_due image bound).status ≡ Refused) × (65536 < length image)) ⊎ (((image_due image bound).status ≡ status_of (run_of shipped_meanings bound (loaded image)).0) × (length image ≤ 65536))
-unfolding image_due
-by_length image bound = elim (cases_lt 65536 (length image)) [
-  | inl large ↦ let whole : nat_lt 65536 (length image) ≡ true = grind (arith, nat_tests) in inl (rw whole refl, large)
-  | inr few ↦ let short : nat_lt 65536 (length image) ≡ false = grind (arith, nat_tests) in inr (rw short refl, omega arith)
+reaches_ran : (run : Order) (shelf shelf' : ShelfView) (due : Due) (s : Status) → Reaches run shelf shelf' due → due.status ≡ s → is_end s → RanSo (Some run) shelf shelf' s
+reaches_ran run shelf shelf' due s (inl stops) e h = absurd (stops_no_end run.image_name image_limit image_stage shelf shelf' due s stops e h)
+reaches_ran run shelf shelf' due s (inr on) e h = after_ran run on.image shelf on.between shelf' due s on.image_passed on.after e h
+
+comes_ran : (parsed : Option Order) (shelf shelf' : ShelfView) (due : Due) (s : Status) → Comes parsed shelf shelf' due → due.status ≡ s → is_end s → RanSo parsed shelf shelf' s
+comes_ran None shelf shelf' due s c e h = absurd ((subst is_end (sym e ∙ status_is due _ c.1) h))
+comes_ran (Some run) shelf shelf' due s c e h = reaches_ran run shelf shelf' due s c e h
+
+ran_no_stop : (run : Order) (image : ImageView) (events : List Event) → is_stop (run_due run image events).status → ⊥
+ran_no_stop run image events h = end_is_no_stop (run_made image events run.bound_is).end (subst is_stop (run_status run image events) h)
+
+after_stopped : (run : Order) (image : ImageView) (shelf between shelf' : ShelfView) (due : Due) (s : Status) → PassesImage run shelf between image → AfterImage run image between shelf' due → due.status ≡ s → is_stop s → StoppedAt (Some run) shelf shelf' due
+after_stopped run image shelf between shelf' due s first (inl stops) e h = record { run = run; is_run = refl; at_file = inr (between, image, first, stops) }
+after_stopped run image shelf between shelf' due s first (inr runs) e h = absurd (ran_no_stop run image runs.events (subst is_stop (sym e ∙ status_is due _ runs.due_is) h))
+
+reaches_stopped : (run : Order) (shelf shelf' : ShelfView) (due : Due) (s : Status) → Reaches run shelf shelf' due → due.status ≡ s → is_stop s → StoppedAt (Some run) shelf shelf' due
+reaches_stopped run shelf shelf' due s (inl stops) e h = record { run = run; is_run = refl; at_file = inl stops }
+reaches_stopped run shelf shelf' due s (inr on) e h = after_stopped run on.image shelf on.between shelf' due s on.image_passed on.after e h
+
+comes_stopped : (parsed : Option Order) (shelf shelf' : ShelfView) (due : Due) (s : Status) → Comes parsed shelf shelf' due → due.status ≡ s → is_stop s → StoppedAt parsed shelf shelf' due
+comes_stopped None shelf shelf' due s c e h = absurd ((subst is_stop (sym e ∙ status_is due _ c.1) h))
+comes_stopped (Some run) shelf shelf' due s c e h = reaches_stopped run shelf shelf' due s c e h
+
+-- ---- a status that isn't the sink's is the one due, and all was written
+
+record Settled (comes : Due → Type 0) (s : Status) (sink sink' : SinkView) : Type 0 where
+  due : Due
+  reached : comes due
+  due_status : due.status ≡ s
+  text : Writes true sink sink' due.text
+
+ended : (comes : Due → Type 0) (s status : Status) (sink sink' : SinkView) (due : Due) → comes due → status ≡ s → (s ≡ SinkFailed → ⊥) → Ends status sink sink' due → Settled comes s sink sink'
+ended comes s status sink sink' due reached e other (inl h) = record { due = due; reached = reached; due_status = sym h.0 ∙ e; text = h.1 }
+ended comes s status sink sink' due reached e other (inr h) = absurd (other (sym e ∙ h.0))
+
+settled : (comes : Due → Type 0) (s status : Status) (shelf shelf' : ShelfView) (sink sink' : SinkView) → DoesOrLacks comes status shelf shelf' sink sink' → status ≡ s → (s ≡ SinkFailed → ⊥) → (s ≡ Memory → ⊥) → Settled comes s sink sink'
+settled comes s status shelf shelf' sink sink' (inl does) e other no_memory = ended comes s status sink sink' does.due does.reached e other does.ends
+settled comes s status shelf shelf' sink sink' (inr lacks) e other no_memory = absurd (no_memory (sym e ∙ lacks.wants.0))
+
+-- ---- runs
+
+files_keep : (run : Order) (shelf shelf' : ShelfView) (image : ImageView) (events : List Event) → PassesFiles run shelf shelf' image events → KeepsCounts shelf shelf'
+files_keep run shelf shelf' image events files =
+    let first = files.image_passed.fetch.counts in
+    let second = files.scenario_passed.fetch.counts in
+    record { absences = second.absences ∙ first.absences; faults = second.faults ∙ first.faults }
+
+pub done_cause : (status : Status) (parsed : Option Order) (shelf shelf' : ShelfView) (sink sink' : SinkView) → Answers status parsed shelf shelf' sink sink' → status ≡ Done → NoneRose shelf shelf' sink sink'
+done_cause status parsed shelf shelf' sink sink' answers e =
+    let all = settled (λ due. Comes parsed shelf shelf' due) Done status shelf shelf' sink sink' answers e (λ c. cc) (λ c. cc) in
+    let ran = comes_ran parsed shelf shelf' all.due Done all.reached all.due_status tt in
+    record { shelf_counts = files_keep ran.run shelf shelf' ran.image ran.events ran.files; sink_faults = all.text.counts }
+
+pub budget_cause : (status : Status) (parsed : Option Order) (shelf shelf' : ShelfView) (sink sink' : SinkView) → Answers status parsed shelf shelf' sink sink' → status ≡ BudgetSpent → RanTo (λ end. end ≡ budget_spent) parsed shelf shelf'
+budget_cause status parsed shelf shelf' sink sink' answers e =
+    let all = settled (λ due. Comes parsed shelf shelf' due) BudgetSpent status shelf shelf' sink sink' answers e (λ c. cc) (λ c. cc) in
+    let ran = comes_ran parsed shelf shelf' all.due BudgetSpent all.reached all.due_status tt in
+    record { run = ran.run; is_run = ran.is_run; image = ran.image; events = ran.events; files = ran.files; end = is_budget_spent (run_made ran.image ran.events ran.run.bound_is).end ran.end }
+
+pub vector_cause : (status : Status) (parsed : Option Order) (shelf shelf' : ShelfView) (sink sink' : SinkView) → Answers status parsed shelf shelf' sink sink' → status ≡ VectorFault → RanTo (λ end. (id : ℕ) × (steps : ℕ) × (end ≡ vector_fault id steps)) parsed shelf shelf'
+vector_cause status parsed shelf shelf' sink sink' answers e =
+    let all = settled (λ due. Comes parsed shelf shelf' due) VectorFault status shelf shelf' sink sink' answers e (λ c. cc) (λ c. cc) in
+    let ran = comes_ran parsed shelf shelf' all.due VectorFault all.reached all.due_status tt in
+    record { run = ran.run; is_run = ran.is_run; image = ran.image; events = ran.events; files = ran.files; end = is_vector_fault (run_made ran.image ran.events ran.run.bound_is).end ran.end }
+
+-- ---- words that are no command
+
+stops_no_usage : {A : Type 0} (name : List ℕ) (limit : ℕ) (stage : List ℕ → Result A Refusal) (shelf shelf' : ShelfView) (due : Due) → Stops name limit stage shelf shelf' due → due.status ≡ Usage → ⊥
+stops_no_usage name limit stage shelf shelf' due (inl u) e = go u.fault (sym (status_is due _ u.due_is) ∙ e)
+  where
+    go : (fault : ShelfFault) → (fault_due name fault).status ≡ Usage → ⊥
+    go absent c = cc
+    go failed c = cc
+    go memory c = cc
+stops_no_usage name limit stage shelf shelf' due (inr r) e = let c = sym (status_is due _ r.due_is) ∙ e in cc
+
+after_no_usage : (run : Order) (image : ImageView) (shelf shelf' : ShelfView) (due : Due) → AfterImage run image shelf shelf' due → due.status ≡ Usage → ⊥
+after_no_usage run image shelf shelf' due (inl stops) e = stops_no_usage run.scenario_name scenario_limit scenario_stage shelf shelf' due stops e
+after_no_usage run image shelf shelf' due (inr runs) e = end_is_no_usage _ (sym (run_status run image runs.events) ∙ sym (status_is due _ runs.due_is) ∙ e)
+
+reaches_no_usage : (run : Order) (shelf shelf' : ShelfView) (due : Due) → Reaches run shelf shelf' due → due.status ≡ Usage → ⊥
+reaches_no_usage run shelf shelf' due (inl stops) e = stops_no_usage run.image_name image_limit image_stage shelf shelf' due stops e
+reaches_no_usage run shelf shelf' due (inr on) e = after_no_usage run on.image on.between shelf' due on.after e
+
+comes_usage : (parsed : Option Order) (shelf shelf' : ShelfView) (due : Due) → Comes parsed shelf shelf' due → due.status ≡ Usage → parsed ≡ None
+comes_usage None shelf shelf' due c e = refl
+comes_usage (Some run) shelf shelf' due c e = absurd (reaches_no_usage run shelf shelf' due c e)
+
+pub usage_cause : (status : Status) (parsed : Option Order) (shelf shelf' : ShelfView) (sink sink' : SinkView) → Answers status parsed shelf shelf' sink sink' → status ≡ Usage → parsed ≡ None
+usage_cause status parsed shelf shelf' sink sink' answers e =
+    let all = settled (λ due. Comes parsed shelf shelf' due) Usage status shelf shelf' sink sink' answers e (λ c. cc) (λ c. cc) in
+    comes_usage parsed shelf shelf' all.due all.reached all.due_status
+
+-- ---- files that stop the command
+
+text_is : (sink sink' : SinkView) (due d : Due) → due ≡ d → Writes true sink sink' due.text → Writes true sink sink' d.text
+text_is sink sink' due d e w = subst (λ (x : Due). Writes true sink sink' x.text) e w
+
+absent_file : (name : List ℕ) (limit : ℕ) (shelf shelf' : ShelfView) (sink sink' : SinkView) (due : Due) (fault : ShelfFault) → Fetches name limit shelf shelf' (Err fault) → due ≡ fault_due name fault → due.status ≡ Absent → Writes true sink sink' due.text → IsAbsentFile sink sink' name shelf shelf'
+absent_file name limit shelf shelf' sink sink' due absent fetch is e w = record { rose = fetch.counts.absences; file = fetch.file; text = text_is sink sink' due _ is w }
+absent_file name limit shelf shelf' sink sink' due failed fetch is e w = let c = sym (status_is due _ is) ∙ e in cc
+absent_file name limit shelf shelf' sink sink' due memory fetch is e w = let c = sym (status_is due _ is) ∙ e in cc
+
+absent_at : {A : Type 0} (name : List ℕ) (limit : ℕ) (stage : List ℕ → Result A Refusal) (shelf shelf' : ShelfView) (sink sink' : SinkView) (due : Due) → Stops name limit stage shelf shelf' due → due.status ≡ Absent → Writes true sink sink' due.text → IsAbsentFile sink sink' name shelf shelf'
+absent_at name limit stage shelf shelf' sink sink' due (inl u) e w = absent_file name limit shelf shelf' sink sink' due u.fault u.fetch u.due_is e w
+absent_at name limit stage shelf shelf' sink sink' due (inr r) e w = let c = sym (status_is due _ r.due_is) ∙ e in cc
+
+pub absent_cause : (status : Status) (parsed : Option Order) (shelf shelf' : ShelfView) (sink sink' : SinkView) → Answers status parsed shelf shelf' sink sink' → status ≡ Absent → IsAbsent parsed shelf shelf' sink sink'
+absent_cause status parsed shelf shelf' sink sink' answers e =
+    let all = settled (λ due. Comes parsed shelf shelf' due) Absent status shelf shelf' sink sink' answers e (λ c. cc) (λ c. cc) in
+    let stopped = comes_stopped parsed shelf shelf' all.due Absent all.reached all.due_status tt in
+    record {
+      run = stopped.run;
+      is_run = stopped.is_run;
+      at_file = elim stopped.at_file [
+        | inl first ↦ inl (absent_at stopped.run.image_name image_limit image_stage shelf shelf' sink sink' all.due first all.due_status all.text)
+        | inr later ↦ inr (later.0, later.1, later.2, absent_at stopped.run.scenario_name scenario_limit scenario_stage later.0 shelf' sink sink' all.due later.3 all.due_status all.text)
+      ];
+    }
+
+failed_file : (name : List ℕ) (limit : ℕ) (shelf shelf' : ShelfView) (sink sink' : SinkView) (due : Due) (fault : ShelfFault) → Fetches name limit shelf shelf' (Err fault) → due ≡ fault_due name fault → due.status ≡ ShelfFailed → Writes true sink sink' due.text → IsFailedFile sink sink' name shelf shelf'
+failed_file name limit shelf shelf' sink sink' due absent fetch is e w = let c = sym (status_is due _ is) ∙ e in cc
+failed_file name limit shelf shelf' sink sink' due failed fetch is e w = record { rose = fetch.counts.faults; text = text_is sink sink' due _ is w }
+failed_file name limit shelf shelf' sink sink' due memory fetch is e w = let c = sym (status_is due _ is) ∙ e in cc
+
+failed_at : {A : Type 0} (name : List ℕ) (limit : ℕ) (stage : List ℕ → Result A Refusal) (shelf shelf' : ShelfView) (sink sink' : SinkView) (due : Due) → Stops name limit stage shelf shelf' due → due.status ≡ ShelfFailed → Writes true sink sink' due.text → IsFailedFile sink sink' name shelf shelf'
+failed_at name limit stage shelf shelf' sink sink' due (inl u) e w = failed_file name limit shelf shelf' sink sink' due u.fault u.fetch u.due_is e w
+failed_at name limit stage shelf shelf' sink sink' due (inr r) e w = let c = sym (status_is due _ r.due_is) ∙ e in cc
+
+pub failed_cause : (status : Status) (parsed : Option Order) (shelf shelf' : ShelfView) (sink sink' : SinkView) → Answers status parsed shelf shelf' sink sink' → status ≡ ShelfFailed → HasFailed parsed shelf shelf' sink sink'
+failed_cause status parsed shelf shelf' sink sink' answers e =
+    let all = settled (λ due. Comes parsed shelf shelf' due) ShelfFailed status shelf shelf' sink sink' answers e (λ c. cc) (λ c. cc) in
+    let stopped = comes_stopped parsed shelf shelf' all.due ShelfFailed all.reached all.due_status tt in
+    record {
+      run = stopped.run;
+      is_run = stopped.is_run;
+      at_file = elim stopped.at_file [
+        | inl first ↦ inl (failed_at stopped.run.image_name image_limit image_stage shelf shelf' sink sink' all.due first all.due_status all.text)
+        | inr later ↦ inr (later.0, later.1, later.2, failed_at stopped.run.scenario_name scenario_limit scenario_stage later.0 shelf' sink sink' all.due later.3 all.due_status all.text)
+      ];
+    }
+
+refused_file : (name : List ℕ) (fault : ShelfFault) → (fault_due name fault).status ≡ Refused → ⊥
+refused_file name absent c = cc
+refused_file name failed c = cc
+refused_file name memory c = cc
+
+refused_at : {A : Type 0} (name : List ℕ) (limit : ℕ) (stage : List ℕ → Result A Refusal) (shelf shelf' : ShelfView) (sink sink' : SinkView) (due : Due) → Stops name limit stage shelf shelf' due → due.status ≡ Refused → Writes true sink sink' due.text → IsRefusedFile stage name limit shelf shelf' sink sink'
+refused_at name limit stage shelf shelf' sink sink' due (inl u) e w = absurd (refused_file name u.fault (sym (status_is due _ u.due_is) ∙ e))
+refused_at name limit stage shelf shelf' sink sink' due (inr r) e w = record { bytes = r.bytes; refusal = r.refusal; fetch = r.fetch; refused = r.refused; text = text_is sink sink' due _ r.due_is w }
+
+pub refused_cause : (status : Status) (parsed : Option Order) (shelf shelf' : ShelfView) (sink sink' : SinkView) → Answers status parsed shelf shelf' sink sink' → status ≡ Refused → IsRefusedRun parsed shelf shelf' sink sink'
+refused_cause status parsed shelf shelf' sink sink' answers e =
+    let all = settled (λ due. Comes parsed shelf shelf' due) Refused status shelf shelf' sink sink' answers e (λ c. cc) (λ c. cc) in
+    let stopped = comes_stopped parsed shelf shelf' all.due Refused all.reached all.due_status tt in
+    record {
+      run = stopped.run;
+      is_run = stopped.is_run;
+      at_file = elim stopped.at_file [
+        | inl first ↦ inl (refused_at stopped.run.image_name image_limit image_stage shelf shelf' sink sink' all.due first all.due_status all.text)
+        | inr later ↦ inr (record { image = later.1; between = later.0; image_passed = later.2; scenario = refused_at stopped.run.scenario_name scenario_limit scenario_stage later.0 shelf' sink sink' all.due later.3 all.due_status all.text })
+      ];
+    }
+
+-- ---- want of memory
+
+memory_stops : {A : Type 0} (name : List ℕ) (limit : ℕ) (stage : List ℕ → Result A Refusal) (shelf shelf' : ShelfView) (due : Due) → Stops name limit stage shelf shelf' due → due.status ≡ Memory → due.text ≡ []
+memory_stops name limit stage shelf shelf' due (inl u) e = go u.fault u.due_is
+  where
+    go : (fault : ShelfFault) → due ≡ fault_due name fault → due.text ≡ []
+    go absent is = let c = sym (status_is due _ is) ∙ e in cc
+    go failed is = let c = sym (status_is due _ is) ∙ e in cc
+    go memory is = ap (λ (x : Due). x.text) is
+memory_stops name limit stage shelf shelf' due (inr r) e = let c = sym (status_is due _ r.due_is) ∙ e in cc
+
+memory_text : (parsed : Option Order) (shelf shelf' : ShelfView) (due : Due) → StoppedAt parsed shelf shelf' due → due.status ≡ Memory → due.text ≡ []
+memory_text parsed shelf shelf' due stopped e = elim stopped.at_file [
+  | inl first ↦ memory_stops stopped.run.image_name image_limit image_stage shelf shelf' due first e
+  | inr later ↦ memory_stops stopped.run.scenario_name scenario_limit scenario_stage later.0 shelf' due later.3 e
 ]
 
--- a status that isn't that of a refusal is the one of the run's end
-ran_end : (image : List ℕ) (bound : ℕ) (s : Status) → (image_due image bound).status ≡ s → (s ≡ Refused → ⊥) → (status_of (run_of shipped_meanings bound (loaded image)).0 ≡ s) × (length image ≤ 65536)
-ran_end image bound s e other = elim (by_length image bound) [
-  | inl large ↦ absurd (other (sym e ∙ large.0))
-  | inr short ↦ (sym short.0 ∙ e, short.1)
-]
+memory_ends : (parsed : Option Order) (status : Status) (shelf shelf' : ShelfView) (sink sink' : SinkView) (due : Due) → Comes parsed shelf shelf' due → Ends status sink sink' due → status ≡ Memory → Writes true sink sink' []
+memory_ends parsed status shelf shelf' sink sink' due reached (inl h) e =
+    let due_status = sym h.0 ∙ e in
+    let nothing = memory_text parsed shelf shelf' due (comes_stopped parsed shelf shelf' due Memory reached due_status tt) due_status in
+    subst (λ (t : List ℕ). Writes true sink sink' t) nothing h.1
+memory_ends parsed status shelf shelf' sink sink' due reached (inr h) e = let c = sym e ∙ h.0 in cc
 
--- a status of no end is that of a refusal
-no_run : (image : List ℕ) (bound : ℕ) (s : Status) → (image_due image bound).status ≡ s → (is_end s → ⊥) → (s ≡ Refused) × (65536 < length image)
-no_run image bound s e none = elim (by_length image bound) [
-  | inl large ↦ (sym e ∙ large.0, large.1)
-  | inr short ↦ absurd (no_end _ s (sym short.0 ∙ e) none)
-]
+pub memory_cause : (status : Status) (parsed : Option Order) (shelf shelf' : ShelfView) (sink sink' : SinkView) → Answers status parsed shelf shelf' sink sink' → status ≡ Memory → Writes true sink sink' []
+memory_cause status parsed shelf shelf' sink sink' (inl does) e = memory_ends parsed status shelf shelf' sink sink' does.due does.reached does.ends e
+memory_cause status parsed shelf shelf' sink sink' (inr lacks) e = lacks.wants.1
 
--- a status that isn't the sink's is the one due, and all was written
-ended : (s status : Status) (o n : SinkView) (due : Due) → status ≡ s → (s ≡ SinkFailed → ⊥) → Ends status o n due → (due.status ≡ s) × Writes true o n due.text
-ended s status o n due e other (inl h) = (sym h.0 ∙ e, h.1)
-ended s status o n due e other (inr h) = absurd (other (sym e ∙ h.0))
+-- ---- the sink failed, or the status is the one due, which is none of the sink's
 
-settled : (s status : Status) (o n : SinkView) (due : Due) → status ≡ s → (s ≡ SinkFailed → ⊥) → (s ≡ Memory → ⊥) → EndsOrLacks status o n due → (due.status ≡ s) × Writes true o n due.text
-settled s status o n due e other no_memory (inl h) = ended s status o n due e other h
-settled s status o n due e other no_memory (inr h) = absurd (no_memory (sym e ∙ h.0))
+no_sink : (parsed : Option Order) (shelf shelf' : ShelfView) (due : Due) → Comes parsed shelf shelf' due → due.status ≡ SinkFailed → ⊥
+no_sink parsed shelf shelf' due reached e =
+    let ran = comes_ran parsed shelf shelf' due SinkFailed reached e tt in
+    never_sink_failed shipped_meanings ran.events ran.run.bound_is _ (is_sink_failed (run_made ran.image ran.events ran.run.bound_is).end ran.end)
 
--- words that are refused have no status but two
-misused : (s status : Status) (shelf shelf' : ShelfView) (sink sink' : SinkView) → Misuses status shelf shelf' sink sink' → status ≡ s → (s ≡ Usage → ⊥) → (s ≡ SinkFailed → ⊥) → ⊥
-misused s status shelf shelf' sink sink' m e usage other = usage (sym (ended s status sink sink' usage_due e other m.ends).0)
+sink_ends : (parsed : Option Order) (status : Status) (shelf shelf' : ShelfView) (sink sink' : SinkView) (due : Due) → Comes parsed shelf shelf' due → Ends status sink sink' due → status ≡ SinkFailed → Rose sink.faults sink'.faults
+sink_ends parsed status shelf shelf' sink sink' due reached (inl h) e = absurd (no_sink parsed shelf shelf' due reached (sym h.0 ∙ e))
+sink_ends parsed status shelf shelf' sink sink' due reached (inr h) e = h.1.counts
 
-done_run : (fetched : Result (List ℕ) ShelfFault) (status : Status) (shelf shelf' : ShelfView) (sink sink' : SinkView) (name : List ℕ) (bound : ℕ) → Runs status fetched shelf shelf' sink sink' name bound → status ≡ Done → NoneRose shelf shelf' sink sink'
-done_run (Ok image) status shelf shelf' sink sink' name bound runs e =
-    let all = settled Done status sink sink' (image_due image bound) e (λ c. cc) (λ c. cc) runs.ends in
-    record { shelf_counts = runs.counts; sink_faults = all.1.counts }
-done_run (Err absent) status shelf shelf' sink sink' name bound runs e = let c = (ended Done status sink sink' _ e (λ c. cc) runs.ends).0 in cc
-done_run (Err failed) status shelf shelf' sink sink' name bound runs e = let c = (ended Done status sink sink' _ e (λ c. cc) runs.ends).0 in cc
-done_run (Err memory) status shelf shelf' sink sink' name bound runs e = let c = (ended Done status sink sink' _ e (λ c. cc) runs.ends).0 in cc
+pub sink_cause : (status : Status) (parsed : Option Order) (shelf shelf' : ShelfView) (sink sink' : SinkView) → Answers status parsed shelf shelf' sink sink' → status ≡ SinkFailed → Rose sink.faults sink'.faults
+sink_cause status parsed shelf shelf' sink sink' (inl does) e = sink_ends parsed status shelf shelf' sink sink' does.due does.reached does.ends e
+sink_cause status parsed shelf shelf' sink sink' (inr lacks) e = let c = sym e ∙ lacks.wants.0 in cc
 
-pub done_cause : (status : Status) (words : List (List ℕ)) (shelf shelf' : ShelfView) (sink sink' : SinkView) → Answers status words shelf shelf' sink sink' → status ≡ Done → NoneRose shelf shelf' sink sink'
-done_cause status words shelf shelf' sink sink' (inl m) e = absurd (misused Done status shelf shelf' sink sink' m.1 e (λ c. cc) (λ c. cc))
-done_cause status words shelf shelf' sink sink' (inr ran) e = done_run ran.fetched status shelf shelf' sink sink' ran.name ran.bound ran.runs e
+-- ---- where counts rose
 
-budget_run : (fetched : Result (List ℕ) ShelfFault) (status : Status) (words : List (List ℕ)) (shelf shelf' : ShelfView) (sink sink' : SinkView) (name : List ℕ) (bound : ℕ) → IsRun words name bound → Runs status fetched shelf shelf' sink sink' name bound → status ≡ BudgetSpent → RanTo (λ end. end ≡ budget_spent) words shelf
-budget_run (Ok image) status words shelf shelf' sink sink' name bound is_run runs e =
-    let all = settled BudgetSpent status sink sink' (image_due image bound) e (λ c. cc) (λ c. cc) runs.ends in
-    let end = ran_end image bound BudgetSpent all.0 (λ c. cc) in
-    record { gave = record { name = name; bound = bound; image = image; is_run = is_run; file = runs.file }; short = end.1; end = is_budget_spent _ end.0 }
-budget_run (Err absent) status words shelf shelf' sink sink' name bound is_run runs e = let c = (ended BudgetSpent status sink sink' _ e (λ c. cc) runs.ends).0 in cc
-budget_run (Err failed) status words shelf shelf' sink sink' name bound is_run runs e = let c = (ended BudgetSpent status sink sink' _ e (λ c. cc) runs.ends).0 in cc
-budget_run (Err memory) status words shelf shelf' sink sink' name bound is_run runs e = let c = (ended BudgetSpent status sink sink' _ e (λ c. cc) runs.ends).0 in cc
+rose_ends : (status : Status) (sink sink' : SinkView) (due : Due) → Ends status sink sink' due → sink.faults < sink'.faults → status ≡ SinkFailed
+rose_ends status sink sink' due (inl h) rose = absurd (omega (arith, h.1.counts))
+rose_ends status sink sink' due (inr h) rose = h.0
 
-pub budget_cause : (status : Status) (words : List (List ℕ)) (shelf shelf' : ShelfView) (sink sink' : SinkView) → Answers status words shelf shelf' sink sink' → status ≡ BudgetSpent → RanTo (λ end. end ≡ budget_spent) words shelf
-budget_cause status words shelf shelf' sink sink' (inl m) e = absurd (misused BudgetSpent status shelf shelf' sink sink' m.1 e (λ c. cc) (λ c. cc))
-budget_cause status words shelf shelf' sink sink' (inr ran) e = budget_run ran.fetched status words shelf shelf' sink sink' ran.name ran.bound ran.is_run ran.runs e
-
-vector_run : (fetched : Result (List ℕ) ShelfFault) (status : Status) (words : List (List ℕ)) (shelf shelf' : ShelfView) (sink sink' : SinkView) (name : List ℕ) (bound : ℕ) → IsRun words name bound → Runs status fetched shelf shelf' sink sink' name bound → status ≡ VectorFault → RanTo (λ end. (id : ℕ) × (steps : ℕ) × (end ≡ vector_fault id steps)) words shelf
-vector_run (Ok image) status words shelf shelf' sink sink' name bound is_run runs e =
-    let all = settled VectorFault status sink sink' (image_due image bound) e (λ c. cc) (λ c. cc) runs.ends in
-    let end = ran_end image bound VectorFault all.0 (λ c. cc) in
-    record { gave = record { name = name; bound = bound; image = image; is_run = is_run; file = runs.file }; short = end.1; end = is_vector_fault _ end.0 }
-vector_run (Err absent) status words shelf shelf' sink sink' name bound is_run runs e = let c = (ended VectorFault status sink sink' _ e (λ c. cc) runs.ends).0 in cc
-vector_run (Err failed) status words shelf shelf' sink sink' name bound is_run runs e = let c = (ended VectorFault status sink sink' _ e (λ c. cc) runs.ends).0 in cc
-vector_run (Err memory) status words shelf shelf' sink sink' name bound is_run runs e = let c = (ended VectorFault status sink sink' _ e (λ c. cc) runs.ends).0 in cc
-
-pub vector_cause : (status : Status) (words : List (List ℕ)) (shelf shelf' : ShelfView) (sink sink' : SinkView) → Answers status words shelf shelf' sink sink' → status ≡ VectorFault → RanTo (λ end. (id : ℕ) × (steps : ℕ) × (end ≡ vector_fault id steps)) words shelf
-vector_cause status words shelf shelf' sink sink' (inl m) e = absurd (misused VectorFault status shelf shelf' sink sink' m.1 e (λ c. cc) (λ c. cc))
-vector_cause status words shelf shelf' sink sink' (inr ran) e = vector_run ran.fetched status words shelf shelf' sink sink' ran.name ran.bound ran.is_run ran.runs e
-
-refused_run : (fetched : Result (List ℕ) ShelfFault) (status : Status) (words : List (List ℕ)) (shelf shelf' : ShelfView) (sink sink' : SinkView) (name : List ℕ) (bound : ℕ) → IsRun words name bound → Runs status fetched shelf shelf' sink sink' name bound → status ≡ Refused → IsTooLarge words shelf
-unfolding is_end
-refused_run (Ok image) status words shelf shelf' sink sink' name bound is_run runs e =
-    let all = settled Refused status sink sink' (image_due image bound) e (λ c. cc) (λ c. cc) runs.ends in
-    record { gave = record { name = name; bound = bound; image = image; is_run = is_run; file = runs.file }; long = (no_run image bound Refused all.0 (λ c. c)).1 }
-refused_run (Err absent) status words shelf shelf' sink sink' name bound is_run runs e = let c = (ended Refused status sink sink' _ e (λ c. cc) runs.ends).0 in cc
-refused_run (Err failed) status words shelf shelf' sink sink' name bound is_run runs e = let c = (ended Refused status sink sink' _ e (λ c. cc) runs.ends).0 in cc
-refused_run (Err memory) status words shelf shelf' sink sink' name bound is_run runs e = let c = (ended Refused status sink sink' _ e (λ c. cc) runs.ends).0 in cc
-
-pub refused_cause : (status : Status) (words : List (List ℕ)) (shelf shelf' : ShelfView) (sink sink' : SinkView) → Answers status words shelf shelf' sink sink' → status ≡ Refused → IsTooLarge words shelf
-refused_cause status words shelf shelf' sink sink' (inl m) e = absurd (misused Refused status shelf shelf' sink sink' m.1 e (λ c. cc) (λ c. cc))
-refused_cause status words shelf shelf' sink sink' (inr ran) e = refused_run ran.fetched status words shelf shelf' sink sink' ran.name ran.bound ran.is_run ran.runs e
-
-usage_run : (fetched : Result (List ℕ) ShelfFault) (status : Status) (shelf shelf' : ShelfView) (sink sink' : SinkView) (name : List ℕ) (bound : ℕ) → Runs status fetched shelf shelf' sink sink' name bound → status ≡ Usage → ⊥
-unfolding is_end
-usage_run (Ok image) status shelf shelf' sink sink' name bound runs e =
-    let all = settled Usage status sink sink' (image_due image bound) e (λ c. cc) (λ c. cc) runs.ends in
-    let c = (no_run image bound Usage all.0 (λ c. c)).0 in cc
-usage_run (Err absent) status shelf shelf' sink sink' name bound runs e = let c = (ended Usage status sink sink' _ e (λ c. cc) runs.ends).0 in cc
-usage_run (Err failed) status shelf shelf' sink sink' name bound runs e = let c = (ended Usage status sink sink' _ e (λ c. cc) runs.ends).0 in cc
-usage_run (Err memory) status shelf shelf' sink sink' name bound runs e = let c = (ended Usage status sink sink' _ e (λ c. cc) runs.ends).0 in cc
-
-pub usage_cause : (status : Status) (words : List (List ℕ)) (shelf shelf' : ShelfView) (sink sink' : SinkView) → Answers status words shelf shelf' sink sink' → status ≡ Usage → IsNoCommand words
-usage_cause status words shelf shelf' sink sink' (inl m) e = m.0
-usage_cause status words shelf shelf' sink sink' (inr ran) e = absurd (usage_run ran.fetched status shelf shelf' sink sink' ran.name ran.bound ran.runs e)
-
-absent_run : (fetched : Result (List ℕ) ShelfFault) (status : Status) (words : List (List ℕ)) (shelf shelf' : ShelfView) (sink sink' : SinkView) (name : List ℕ) (bound : ℕ) → IsRun words name bound → Runs status fetched shelf shelf' sink sink' name bound → status ≡ Absent → IsAbsent words shelf shelf' sink sink'
-unfolding is_end
-absent_run (Ok image) status words shelf shelf' sink sink' name bound is_run runs e =
-    let all = settled Absent status sink sink' (image_due image bound) e (λ c. cc) (λ c. cc) runs.ends in
-    let c = (no_run image bound Absent all.0 (λ c. c)).0 in cc
-absent_run (Err absent) status words shelf shelf' sink sink' name bound is_run runs e =
-    record { name = name; bound = bound; is_run = is_run; rose = runs.counts.absences; file = runs.file; text = (ended Absent status sink sink' _ e (λ c. cc) runs.ends).1 }
-absent_run (Err failed) status words shelf shelf' sink sink' name bound is_run runs e = let c = (ended Absent status sink sink' _ e (λ c. cc) runs.ends).0 in cc
-absent_run (Err memory) status words shelf shelf' sink sink' name bound is_run runs e = let c = (ended Absent status sink sink' _ e (λ c. cc) runs.ends).0 in cc
-
-pub absent_cause : (status : Status) (words : List (List ℕ)) (shelf shelf' : ShelfView) (sink sink' : SinkView) → Answers status words shelf shelf' sink sink' → status ≡ Absent → IsAbsent words shelf shelf' sink sink'
-absent_cause status words shelf shelf' sink sink' (inl m) e = absurd (misused Absent status shelf shelf' sink sink' m.1 e (λ c. cc) (λ c. cc))
-absent_cause status words shelf shelf' sink sink' (inr ran) e = absent_run ran.fetched status words shelf shelf' sink sink' ran.name ran.bound ran.is_run ran.runs e
-
-failed_run : (fetched : Result (List ℕ) ShelfFault) (status : Status) (words : List (List ℕ)) (shelf shelf' : ShelfView) (sink sink' : SinkView) (name : List ℕ) (bound : ℕ) → IsRun words name bound → Runs status fetched shelf shelf' sink sink' name bound → status ≡ ShelfFailed → HasFailed words shelf shelf' sink sink'
-unfolding is_end
-failed_run (Ok image) status words shelf shelf' sink sink' name bound is_run runs e =
-    let all = settled ShelfFailed status sink sink' (image_due image bound) e (λ c. cc) (λ c. cc) runs.ends in
-    let c = (no_run image bound ShelfFailed all.0 (λ c. c)).0 in cc
-failed_run (Err absent) status words shelf shelf' sink sink' name bound is_run runs e = let c = (ended ShelfFailed status sink sink' _ e (λ c. cc) runs.ends).0 in cc
-failed_run (Err failed) status words shelf shelf' sink sink' name bound is_run runs e =
-    record { name = name; bound = bound; is_run = is_run; rose = runs.counts.faults; text = (ended ShelfFailed status sink sink' _ e (λ c. cc) runs.ends).1 }
-failed_run (Err memory) status words shelf shelf' sink sink' name bound is_run runs e = let c = (ended ShelfFailed status sink sink' _ e (λ c. cc) runs.ends).0 in cc
-
-pub failed_cause : (status : Status) (words : List (List ℕ)) (shelf shelf' : ShelfView) (sink sink' : SinkView) → Answers status words shelf shelf' sink sink' → status ≡ ShelfFailed → HasFailed words shelf shelf' sink sink'
-failed_cause status words shelf shelf' sink sink' (inl m) e = absurd (misused ShelfFailed status shelf shelf' sink sink' m.1 e (λ c. cc) (λ c. cc))
-failed_cause status words shelf shelf' sink sink' (inr ran) e = failed_run ran.fetched status words shelf shelf' sink sink' ran.name ran.bound ran.is_run ran.runs e
-
--- the sink failed, or the status is the one due, which is none of the sink's
-sink_image : (image : List ℕ) (bound : ℕ) (status : Status) (o n : SinkView) → EndsOrLacks status o n (image_due image bound) → status ≡ SinkFailed → Rose o.faults n.faults
-sink_image image bound status o n (inl (inl h)) e =
-    let end = ran_end image bound SinkFailed (sym h.0 ∙ e) (λ c. cc) in
-    absurd (never_sink_failed shipped_meanings bound (loaded image) (is_sink_failed _ end.0))
-sink_image image bound status o n (inl (inr h)) e = h.1.counts
-sink_image image bound status o n (inr h) e = let c = sym e ∙ h.0 in cc
-
-sink_ends : (status : Status) (o n : SinkView) (due : Due) → (due.status ≡ SinkFailed → ⊥) → Ends status o n due → status ≡ SinkFailed → Rose o.faults n.faults
-sink_ends status o n due other (inl h) e = absurd (other (sym h.0 ∙ e))
-sink_ends status o n due other (inr h) e = h.1.counts
-
-sink_run : (fetched : Result (List ℕ) ShelfFault) (status : Status) (shelf shelf' : ShelfView) (sink sink' : SinkView) (name : List ℕ) (bound : ℕ) → Runs status fetched shelf shelf' sink sink' name bound → status ≡ SinkFailed → Rose sink.faults sink'.faults
-sink_run (Ok image) status shelf shelf' sink sink' name bound runs e = sink_image image bound status sink sink' runs.ends e
-sink_run (Err absent) status shelf shelf' sink sink' name bound runs e = sink_ends status sink sink' _ (λ c. cc) runs.ends e
-sink_run (Err failed) status shelf shelf' sink sink' name bound runs e = sink_ends status sink sink' _ (λ c. cc) runs.ends e
-sink_run (Err memory) status shelf shelf' sink sink' name bound runs e = sink_ends status sink sink' _ (λ c. cc) runs.ends e
-
-pub sink_cause : (status : Status) (words : List (List ℕ)) (shelf shelf' : ShelfView) (sink sink' : SinkView) → Answers status words shelf shelf' sink sink' → status ≡ SinkFailed → Rose sink.faults sink'.faults
-sink_cause status words shelf shelf' sink sink' (inl m) e = sink_ends status sink sink' usage_due (λ c. cc) m.1.ends e
-sink_cause status words shelf shelf' sink sink' (inr ran) e = sink_run ran.fetched status shelf shelf' sink sink' ran.name ran.bound ran.runs e
-
-memory_image : (image : List ℕ) (bound : ℕ) (status : Status) (o n : SinkView) → EndsOrLacks status o n (image_due image bound) → status ≡ Memory → Writes true o n []
-unfolding is_end
-memory_image image bound status o n (inl (inl h)) e = let c = (no_run image bound Memory (sym h.0 ∙ e) (λ c. c)).0 in cc
-memory_image image bound status o n (inl (inr h)) e = let c = sym e ∙ h.0 in cc
-memory_image image bound status o n (inr h) e = h.1
-
-memory_run : (fetched : Result (List ℕ) ShelfFault) (status : Status) (shelf shelf' : ShelfView) (sink sink' : SinkView) (name : List ℕ) (bound : ℕ) → Runs status fetched shelf shelf' sink sink' name bound → status ≡ Memory → Writes true sink sink' []
-memory_run (Ok image) status shelf shelf' sink sink' name bound runs e = memory_image image bound status sink sink' runs.ends e
-memory_run (Err absent) status shelf shelf' sink sink' name bound runs e = let c = (ended Memory status sink sink' _ e (λ c. cc) runs.ends).0 in cc
-memory_run (Err failed) status shelf shelf' sink sink' name bound runs e = let c = (ended Memory status sink sink' _ e (λ c. cc) runs.ends).0 in cc
-memory_run (Err memory) status shelf shelf' sink sink' name bound runs e = (ended Memory status sink sink' _ e (λ c. cc) runs.ends).1
-
-pub memory_cause : (status : Status) (words : List (List ℕ)) (shelf shelf' : ShelfView) (sink sink' : SinkView) → Answers status words shelf shelf' sink sink' → status ≡ Memory → Writes true sink sink' []
-memory_cause status words shelf shelf' sink sink' (inl m) e = absurd (misused Memory status shelf shelf' sink sink' m.1 e (λ c. cc) (λ c. cc))
-memory_cause status words shelf shelf' sink sink' (inr ran) e = memory_run ran.fetched status shelf shelf' sink sink' ran.name ran.bound ran.runs e
-
--- where the sink's faults rose, it failed
-rose_ends : (status : Status) (o n : SinkView) (due : Due) → Ends status o n due → o.faults < n.faults → status ≡ SinkFailed
-rose_ends status o n due (inl h) rose = absurd (omega (arith, h.1.counts))
-rose_ends status o n due (inr h) rose = h.0
-
-rose_image : (status : Status) (o n : SinkView) (due : Due) → EndsOrLacks status o n due → o.faults < n.faults → status ≡ SinkFailed
-rose_image status o n due (inl h) rose = rose_ends status o n due h rose
-rose_image status o n due (inr h) rose = absurd (omega (arith, h.1.counts))
-
-rose_run : (fetched : Result (List ℕ) ShelfFault) (status : Status) (shelf shelf' : ShelfView) (sink sink' : SinkView) (name : List ℕ) (bound : ℕ) → Runs status fetched shelf shelf' sink sink' name bound → sink.faults < sink'.faults → status ≡ SinkFailed
-rose_run (Ok image) status shelf shelf' sink sink' name bound runs rose = rose_image status sink sink' _ runs.ends rose
-rose_run (Err fault) status shelf shelf' sink sink' name bound runs rose = rose_ends status sink sink' _ runs.ends rose
-
-pub sink_faults : (status : Status) (words : List (List ℕ)) (shelf shelf' : ShelfView) (sink sink' : SinkView) → Answers status words shelf shelf' sink sink' → sink.faults < sink'.faults → status ≡ SinkFailed
-sink_faults status words shelf shelf' sink sink' (inl m) rose = rose_ends status sink sink' usage_due m.1.ends rose
-sink_faults status words shelf shelf' sink sink' (inr ran) rose = rose_run ran.fetched status shelf shelf' sink sink' ran.name ran.bound ran.runs rose
+pub sink_faults : (status : Status) (parsed : Option Order) (shelf shelf' : ShelfView) (sink sink' : SinkView) → Answers status parsed shelf shelf' sink sink' → sink.faults < sink'.faults → status ≡ SinkFailed
+sink_faults status parsed shelf shelf' sink sink' (inl does) rose = rose_ends status sink sink' does.due does.ends rose
+sink_faults status parsed shelf shelf' sink sink' (inr lacks) rose = absurd (omega (arith, lacks.wants.1.counts))
 
 -- where the sink is calm, the status is the one due
-calm_ends : (status : Status) (o n : SinkView) (due : Due) → Ends status o n due → IsCalm o.faults n.faults → status ≡ due.status
-calm_ends status o n due (inl h) calm = h.0
-calm_ends status o n due (inr h) calm = absurd (never_rose calm h.1.counts)
+calm_ends : (status : Status) (sink sink' : SinkView) (due : Due) → Ends status sink sink' due → IsCalm sink.faults sink'.faults → status ≡ due.status
+calm_ends status sink sink' due (inl h) calm = h.0
+calm_ends status sink sink' due (inr h) calm = absurd (never_rose calm h.1.counts)
 
-faults_run : (fetched : Result (List ℕ) ShelfFault) (status : Status) (shelf shelf' : ShelfView) (sink sink' : SinkView) (name : List ℕ) (bound : ℕ) → Runs status fetched shelf shelf' sink sink' name bound → IsCalm sink.faults sink'.faults → shelf.faults < shelf'.faults → status ≡ ShelfFailed
-faults_run (Ok image) status shelf shelf' sink sink' name bound runs calm rose = absurd (omega (arith, runs.counts.faults))
-faults_run (Err absent) status shelf shelf' sink sink' name bound runs calm rose = absurd (omega (arith, runs.counts.faults))
-faults_run (Err failed) status shelf shelf' sink sink' name bound runs calm rose = calm_ends status sink sink' _ runs.ends calm
-faults_run (Err memory) status shelf shelf' sink sink' name bound runs calm rose = absurd (omega (arith, runs.counts.faults))
+faults_file : (name : List ℕ) (limit : ℕ) (shelf shelf' : ShelfView) (due : Due) (fault : ShelfFault) → Fetches name limit shelf shelf' (Err fault) → due ≡ fault_due name fault → shelf.faults < shelf'.faults → due.status ≡ ShelfFailed
+faults_file name limit shelf shelf' due absent fetch is rose = absurd (omega (arith, fetch.counts.faults))
+faults_file name limit shelf shelf' due failed fetch is rose = status_is due _ is
+faults_file name limit shelf shelf' due memory fetch is rose = absurd (omega (arith, fetch.counts.faults))
 
-pub shelf_faults : (status : Status) (words : List (List ℕ)) (shelf shelf' : ShelfView) (sink sink' : SinkView) → Answers status words shelf shelf' sink sink' → IsCalm sink.faults sink'.faults → shelf.faults < shelf'.faults → status ≡ ShelfFailed
-shelf_faults status words shelf shelf' sink sink' (inl m) calm rose = absurd (omega (arith, m.1.counts.faults))
-shelf_faults status words shelf shelf' sink sink' (inr ran) calm rose = faults_run ran.fetched status shelf shelf' sink sink' ran.name ran.bound ran.runs calm rose
+faults_at : {A : Type 0} (name : List ℕ) (limit : ℕ) (stage : List ℕ → Result A Refusal) (shelf shelf' : ShelfView) (due : Due) → Stops name limit stage shelf shelf' due → shelf.faults < shelf'.faults → due.status ≡ ShelfFailed
+faults_at name limit stage shelf shelf' due (inl u) rose = faults_file name limit shelf shelf' due u.fault u.fetch u.due_is rose
+faults_at name limit stage shelf shelf' due (inr r) rose = absurd (omega (arith, r.fetch.counts.faults))
 
-absences_run : (fetched : Result (List ℕ) ShelfFault) (status : Status) (shelf shelf' : ShelfView) (sink sink' : SinkView) (name : List ℕ) (bound : ℕ) → Runs status fetched shelf shelf' sink sink' name bound → IsCalm sink.faults sink'.faults → shelf.absences < shelf'.absences → status ≡ Absent
-absences_run (Ok image) status shelf shelf' sink sink' name bound runs calm rose = absurd (omega (arith, runs.counts.absences))
-absences_run (Err absent) status shelf shelf' sink sink' name bound runs calm rose = calm_ends status sink sink' _ runs.ends calm
-absences_run (Err failed) status shelf shelf' sink sink' name bound runs calm rose = absurd (omega (arith, runs.counts.absences))
-absences_run (Err memory) status shelf shelf' sink sink' name bound runs calm rose = absurd (omega (arith, runs.counts.absences))
+faults_after : (run : Order) (image : ImageView) (shelf shelf' : ShelfView) (due : Due) → AfterImage run image shelf shelf' due → shelf.faults < shelf'.faults → due.status ≡ ShelfFailed
+faults_after run image shelf shelf' due (inl stops) rose = faults_at run.scenario_name scenario_limit scenario_stage shelf shelf' due stops rose
+faults_after run image shelf shelf' due (inr runs) rose = absurd (omega (arith, runs.scenario_passed.fetch.counts.faults))
 
-pub shelf_absences : (status : Status) (words : List (List ℕ)) (shelf shelf' : ShelfView) (sink sink' : SinkView) → Answers status words shelf shelf' sink sink' → IsCalm sink.faults sink'.faults → shelf.absences < shelf'.absences → status ≡ Absent
-shelf_absences status words shelf shelf' sink sink' (inl m) calm rose = absurd (omega (arith, m.1.counts.absences))
-shelf_absences status words shelf shelf' sink sink' (inr ran) calm rose = absences_run ran.fetched status shelf shelf' sink sink' ran.name ran.bound ran.runs calm rose
+faults_reach : (run : Order) (shelf shelf' : ShelfView) (due : Due) → Reaches run shelf shelf' due → shelf.faults < shelf'.faults → due.status ≡ ShelfFailed
+faults_reach run shelf shelf' due (inl stops) rose = faults_at run.image_name image_limit image_stage shelf shelf' due stops rose
+faults_reach run shelf shelf' due (inr on) rose = faults_after run on.image on.between shelf' due on.after (omega (arith, on.image_passed.fetch.counts.faults))
 
--- the two kinds of words
-pub usage_answer : (status : Status) (words : List (List ℕ)) (shelf shelf' : ShelfView) (sink sink' : SinkView) → Answers status words shelf shelf' sink sink' → IsNoCommand words → Misuses status shelf shelf' sink sink'
-usage_answer status words shelf shelf' sink sink' (inl m) none = m.1
-usage_answer status words shelf shelf' sink sink' (inr ran) none = absurd (none ran.name ran.bound ran.is_run)
+faults_come : (parsed : Option Order) (shelf shelf' : ShelfView) (due : Due) → Comes parsed shelf shelf' due → shelf.faults < shelf'.faults → due.status ≡ ShelfFailed
+faults_come None shelf shelf' due c rose = absurd (omega (arith, c.0.faults))
+faults_come (Some run) shelf shelf' due c rose = faults_reach run shelf shelf' due c rose
 
-pub run_answer : (status : Status) (words : List (List ℕ)) (shelf shelf' : ShelfView) (sink sink' : SinkView) → Answers status words shelf shelf' sink sink' → (name : List ℕ) (bound : ℕ) → IsRun words name bound → (fetched : Result (List ℕ) ShelfFault) × Runs status fetched shelf shelf' sink sink' name bound
-run_answer status words shelf shelf' sink sink' (inl m) name bound is_run = absurd (m.0 name bound is_run)
-run_answer status words shelf shelf' sink sink' (inr ran) name bound is_run =
-    let same = same_words words name ran.name bound ran.bound is_run ran.is_run in
-    rw (same.0, same.1) (ran.fetched, ran.runs)
+pub shelf_faults : (status : Status) (parsed : Option Order) (shelf shelf' : ShelfView) (sink sink' : SinkView) → Answers status parsed shelf shelf' sink sink' → IsCalm sink.faults sink'.faults → shelf.faults < shelf'.faults → status ≡ ShelfFailed
+shelf_faults status parsed shelf shelf' sink sink' (inl does) calm rose = calm_ends status sink sink' does.due does.ends calm ∙ faults_come parsed shelf shelf' does.due does.reached rose
+shelf_faults status parsed shelf shelf' sink sink' (inr lacks) calm rose = absurd (omega (arith, lacks.counts.faults))
+
+absences_file : (name : List ℕ) (limit : ℕ) (shelf shelf' : ShelfView) (due : Due) (fault : ShelfFault) → Fetches name limit shelf shelf' (Err fault) → due ≡ fault_due name fault → shelf.absences < shelf'.absences → due.status ≡ Absent
+absences_file name limit shelf shelf' due absent fetch is rose = status_is due _ is
+absences_file name limit shelf shelf' due failed fetch is rose = absurd (omega (arith, fetch.counts.absences))
+absences_file name limit shelf shelf' due memory fetch is rose = absurd (omega (arith, fetch.counts.absences))
+
+absences_at : {A : Type 0} (name : List ℕ) (limit : ℕ) (stage : List ℕ → Result A Refusal) (shelf shelf' : ShelfView) (due : Due) → Stops name limit stage shelf shelf' due → shelf.absences < shelf'.absences → due.status ≡ Absent
+absences_at name limit stage shelf shelf' due (inl u) rose = absences_file name limit shelf shelf' due u.fault u.fetch u.due_is rose
+absences_at name limit stage shelf shelf' due (inr r) rose = absurd (omega (arith, r.fetch.counts.absences))
+
+absences_after : (run : Order) (image : ImageView) (shelf shelf' : ShelfView) (due : Due) → AfterImage run image shelf shelf' due → shelf.absences < shelf'.absences → due.status ≡ Absent
+absences_after run image shelf shelf' due (inl stops) rose = absences_at run.scenario_name scenario_limit scenario_stage shelf shelf' due stops rose
+absences_after run image shelf shelf' due (inr runs) rose = absurd (omega (arith, runs.scenario_passed.fetch.counts.absences))
+
+absences_reach : (run : Order) (shelf shelf' : ShelfView) (due : Due) → Reaches run shelf shelf' due → shelf.absences < shelf'.absences → due.status ≡ Absent
+absences_reach run shelf shelf' due (inl stops) rose = absences_at run.image_name image_limit image_stage shelf shelf' due stops rose
+absences_reach run shelf shelf' due (inr on) rose = absences_after run on.image on.between shelf' due on.after (omega (arith, on.image_passed.fetch.counts.absences))
+
+absences_come : (parsed : Option Order) (shelf shelf' : ShelfView) (due : Due) → Comes parsed shelf shelf' due → shelf.absences < shelf'.absences → due.status ≡ Absent
+absences_come None shelf shelf' due c rose = absurd (omega (arith, c.0.absences))
+absences_come (Some run) shelf shelf' due c rose = absences_reach run shelf shelf' due c rose
+
+pub shelf_absences : (status : Status) (parsed : Option Order) (shelf shelf' : ShelfView) (sink sink' : SinkView) → Answers status parsed shelf shelf' sink sink' → IsCalm sink.faults sink'.faults → shelf.absences < shelf'.absences → status ≡ Absent
+shelf_absences status parsed shelf shelf' sink sink' (inl does) calm rose = calm_ends status sink sink' does.due does.ends calm ∙ absences_come parsed shelf shelf' does.due does.reached rose
+shelf_absences status parsed shelf shelf' sink sink' (inr lacks) calm rose = absurd (omega (arith, lacks.counts.absences))

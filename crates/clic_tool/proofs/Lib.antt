@@ -1,6 +1,8 @@
 mod NoFault
 mod Found
-mod Lists
 mod Ends
+mod Held
 mod Calm
+mod Complete
+mod RunEnds
 mod Causes

@@ -15,11 +15,13 @@ const PREEMPTS: [u32; 27] = [
     0x00000013, 0x100032B7, 0x0002A023,
 ];
 
-fn new_board(alloc: Global) -> Result<Board<AllDevices>, Fail> {
+/// The shipped board at reset.
+pub fn new_board(alloc: Global) -> Result<Board<AllDevices>, Fail> {
     Ok(Board::new(alloc, shipped(alloc)?)?)
 }
 
-fn place_words<D: Device>(rt: &impl Abort, board: &mut Board<D>, at: u32, words: &[u32]) {
+/// Places words from an address on.
+pub fn place_words<D: Device>(rt: &impl Abort, board: &mut Board<D>, at: u32, words: &[u32]) {
     let mut address = at;
     for word in words {
         for byte in word.to_le_bytes() {
@@ -42,14 +44,19 @@ fn has_csrs<D: Device>(board: &Board<D>, wanted: &[(u16, u32)]) -> bool {
         .all(|row| board.csrs().read(row.0) == Some(row.1))
 }
 
-// Up to the 24th step of the program, with these words changed and the line of input 3 raised.
-fn preempt<D: Device>(rt: &impl Abort, board: &mut Board<D>, changes: &[(u32, u32)]) {
+/// The program at 0x200, with these words changed, and the handler of input 3.
+pub fn place_preempts<D: Device>(rt: &impl Abort, board: &mut Board<D>, changes: &[(u32, u32)]) {
     place_words(rt, board, 0x200, &PREEMPTS);
     place_words(rt, board, 0x10C, &[0x26C]);
     for change in changes {
         place_words(rt, board, change.0, &[change.1]);
     }
     board.set_pc(0x200);
+}
+
+// Up to its 24th step, with the line of input 3 raised.
+fn preempt<D: Device>(rt: &impl Abort, board: &mut Board<D>, changes: &[(u32, u32)]) {
+    place_preempts(rt, board, changes);
     make_steps(board, 23);
     board.apply(&What::Line {
         input: 3,
@@ -169,7 +176,8 @@ fn counts<D: Device>(rt: &impl Abort, board: &mut Board<D>) {
     assert_eq!(rt; board.reg(10), 2);
 }
 
-fn counting_board(rt: &impl Abort, alloc: Global) -> Result<Board<CountingDevices>, Fail> {
+/// A board with the counter beside the shipped devices.
+pub fn counting_board(rt: &impl Abort, alloc: Global) -> Result<Board<CountingDevices>, Fail> {
     let devices = counting_devices(alloc)?;
     assert!(rt; devices.high() <= 0x1_0000 && devices.line_count() <= 8);
     Ok(Board::new(alloc, devices)?)

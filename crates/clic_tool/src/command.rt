@@ -1,30 +1,25 @@
 // The command.
-ghost use Rattle.std.specs.Prelude.{◌≡◌, ℕ, ◌≤◌, ◌<◌, true, length, if◌then◌else◌, List, [], Result, is_ok, IsTrue, IfSome, IfOk};
+ghost use Rattle.std.specs.Prelude.{◌≡◌, ℕ, ◌<◌, true, if◌then◌else◌, [], Some, None, is_ok, IfSome};
 ghost use Rattle.board_outside.specs.Counts.{Rose};
 ghost use Rattle.board_outside.specs.Shelf.{file_at};
 ghost use Rattle.board_outside.specs.Sink.{Writes};
-ghost use Rattle.board_outside.specs.declared.shelf.ShelfFault.{ShelfFault};
-ghost use Rattle.hart_board.specs.Run.{run_of, is_whole};
-ghost use Rattle.hart_board.specs.Report.{report};
-ghost use Rattle.clic_tool.specs.Shipped.{shipped_meanings, shipped_board};
 ghost use Rattle.hart_board.specs.declared.run_end.RunEnd.TheVariants.{BudgetSpent, VectorFault};
-ghost use Rattle.clic_tool.specs.Words.{IsRun, IsNoCommand};
-ghost use Rattle.clic_tool.specs.Due.{placed, status_of, image_due, fault_due, held_due};
-ghost use Rattle.clic_tool.specs.Answers.{Ends, EndsOrLacks, Misuses, Runs, Answers, IsCalm, HasDone};
-ghost use Rattle.clic_tool.specs.Causes.{NoneRose, RanTo, IsTooLarge, IsAbsent, HasFailed};
+ghost use Rattle.clic_tool.specs.Order.{Order, order_of};
+ghost use Rattle.clic_tool.specs.View.{view};
+ghost use Rattle.clic_tool.specs.Due.{refusal_due, fault_due, files_due};
+ghost use Rattle.clic_tool.specs.Answers.{Ends, DoesOrLacks, AfterImage, RunsFiles, Answers, Misuses, IsCalm, HasDone, IsReady, Succeeds};
+ghost use Rattle.clic_tool.specs.Causes.{NoneRose, RanTo, IsAbsent, HasFailed, IsRefusedRun};
 
+use crate::order::read_order;
+use crate::refusal::{Refusal, Stop};
+use crate::run_order::RunOrder;
+use crate::running::run_image;
+use crate::stages::{IMAGE_LIMIT, SCENARIO_LIMIT, checked_events, checked_image};
 use crate::status::Status;
-use crate::words::run_bound;
-use crate::writing::{put_named, put_too_large, put_usage};
-use board_devices::{AllDevices, shipped};
+use crate::writing::{put_named, put_refusal, put_usage};
 use board_outside::{Shelf, ShelfFault, Sink, SinkFault, Words};
-use device_model::Device;
-use hart_board::{Board, RunEnd, run};
-use hart_words::WantOfMemory;
+use hart_memory::Image;
 use std::alloc::Global;
-
-/// The greatest length of an image.
-const IMAGE_LIMIT: usize = 0x1_0000;
 
 // The status of a command of which this became.
 fn ended(written: Result<(), SinkFault>, status: Status) -> Status
@@ -34,63 +29,6 @@ fn ended(written: Result<(), SinkFault>, status: Status) -> Status
         Ok(()) => status,
         Err(_) => Status::SinkFailed,
     }
-}
-
-fn status_of_end(end: &RunEnd) -> Status
-    ensures { result ≡ status_of end.now }
-{
-    match *end {
-        RunEnd::Halted { .. } => Status::Done,
-        RunEnd::BudgetSpent => Status::BudgetSpent,
-        RunEnd::VectorFault { .. } => Status::VectorFault,
-        RunEnd::SinkFailed => Status::SinkFailed,
-    }
-}
-
-// Places the bytes from address 0 on.
-#[tactic(auto, using(crate::proofs::Ends::placing))]
-fn place_all<D: Device>(board: &mut Board<D>, bytes: &[u8])
-    requires { length bytes.now ≤ IMAGE_LIMIT }
-    ensures { board.new ≡ placed 0 bytes.now board.old }
-{
-    for (i, byte) in bytes.iter().enumerate() {
-        board.place(i as u32, *byte);
-    }
-}
-
-// The board with the shipped devices, at reset.
-#[tactic(auto, unfolding(crate::specs::Shipped::shipped_board, crate::specs::Shipped::shipped_meanings))]
-fn new_board(alloc: Global) -> Result<Board<AllDevices>, WantOfMemory>
-    ensures { IfOk result (λ board. board ≡ shipped_board) }
-{
-    let devices = shipped(alloc)?;
-    Board::new(alloc, devices)
-}
-
-// Runs the board with the shipped devices.
-#[tactic(auto, unfolding(crate::specs::Shipped::shipped_meanings))]
-fn run_shipped<W: Sink>(board: &mut Board<AllDevices>, bound: u64, out: &mut W) -> RunEnd
-    ensures end { IsTrue (is_whole result) → result ≡ (run_of shipped_meanings bound board.old).0 }
-    ensures text { let due = run_of shipped_meanings bound board.old in
-        Writes (is_whole result) (W.told out.old) (W.told out.new) (report bound due.0 due.1) }
-{
-    run(board, bound, out)
-}
-
-// Runs an image of these bytes.
-fn run_image<W: Sink>(alloc: Global, image: &[u8], bound: u64, out: &mut W) -> Status
-    ensures { EndsOrLacks result (W.told out.old) (W.told out.new) (image_due image.now bound) }
-{
-    if image.len() > IMAGE_LIMIT {
-        return ended(put_too_large(out), Status::Refused);
-    }
-    let mut board = match new_board(alloc) {
-        Ok(board) => board,
-        Err(_) => return Status::Memory,
-    };
-    place_all(&mut board, image);
-    let end = run_shipped(&mut board, bound, out);
-    status_of_end(&end)
 }
 
 // Tells that the file of that name wasn't given.
@@ -104,29 +42,60 @@ fn end_fault<W: Sink>(fault: ShelfFault, name: &str, out: &mut W) -> Status
     }
 }
 
-// Runs the file of that name.
-fn run_file<F: Shelf, W: Sink>(
+// Tells that a file is refused.
+fn end_refusal<W: Sink>(refusal: Refusal, out: &mut W) -> Status
+    ensures { Ends result (W.told out.old) (W.told out.new) (refusal_due refusal) }
+{
+    ended(put_refusal(refusal, out), Status::Refused)
+}
+
+// Fetches the scenario, and runs the image with it.
+fn run_scenario<F: Shelf, W: Sink>(
     alloc: Global,
-    name: &str,
-    bound: u64,
+    order: &RunOrder<'_>,
+    image: &Image,
     shelf: &mut F,
     out: &mut W,
 ) -> Status
-    ensures { (fetched : Result (List ℕ) ShelfFault) × Runs result fetched (F.told shelf.old) (F.told shelf.new) (W.told out.old) (W.told out.new) name.now bound }
+    ensures { DoesOrLacks (λ due. AfterImage (view order.now) image.now (F.told shelf.old) (F.told shelf.new) due) result (F.told shelf.old) (F.told shelf.new) (W.told out.old) (W.told out.new) }
 {
-    match shelf.fetch(alloc, name, IMAGE_LIMIT as u64) {
-        Ok(image) => run_image(alloc, &image, bound, out),
-        Err(fault) => end_fault(fault, name, out),
+    match shelf.fetch(alloc, order.scenario, SCENARIO_LIMIT) {
+        Ok(bytes) => match checked_events(alloc, &bytes) {
+            Ok(events) => run_image(alloc, order, image, &events, out),
+            Err(Stop::Refused(refusal)) => end_refusal(refusal, out),
+            Err(Stop::Memory) => Status::Memory,
+        },
+        Err(fault) => end_fault(fault, order.scenario, out),
+    }
+}
+
+// Fetches the image and then the scenario, and runs.
+fn run_files<F: Shelf, W: Sink>(
+    alloc: Global,
+    order: &RunOrder<'_>,
+    shelf: &mut F,
+    out: &mut W,
+) -> Status
+    ensures { RunsFiles result (view order.now) (F.told shelf.old) (F.told shelf.new) (W.told out.old) (W.told out.new) }
+{
+    match shelf.fetch(alloc, order.image, IMAGE_LIMIT) {
+        Ok(bytes) => match checked_image(alloc, &bytes) {
+            Ok(image) => run_scenario(alloc, order, &image, shelf, out),
+            Err(Stop::Refused(refusal)) => end_refusal(refusal, out),
+            Err(Stop::Memory) => Status::Memory,
+        },
+        Err(fault) => end_fault(fault, order.image, out),
     }
 }
 
 // Does what the words say.
 fn answer<F: Shelf, W: Sink>(alloc: Global, words: &Words, shelf: &mut F, out: &mut W) -> Status
-    ensures { Answers result words.now (F.told shelf.old) (F.told shelf.new) (W.told out.old) (W.told out.new) }
+    ensures { Answers result (order_of words.now) (F.told shelf.old) (F.told shelf.new) (W.told out.old) (W.told out.new) }
 {
-    match run_bound(words) {
-        Some(bound) => run_file(alloc, words.get(1), bound, shelf, out),
-        None => ended(put_usage(out), Status::Usage),
+    match read_order(alloc, words) {
+        Ok(Some(order)) => run_files(alloc, &order, shelf, out),
+        Ok(None) => ended(put_usage(out), Status::Usage),
+        Err(_) => Status::Memory,
     }
 }
 
@@ -138,25 +107,27 @@ pub fn clic_main<F: Shelf, W: Sink>(
     out: &mut W,
 ) -> Status
     // Words that are no command.
-    ensures usage { IsNoCommand words.now → Misuses result (F.told shelf.old) (F.told shelf.new) (W.told out.old) (W.told out.new) }
+    ensures usage { order_of words.now ≡ None → Misuses result (F.told shelf.old) (F.told shelf.new) (W.told out.old) (W.told out.new) }
     // A run, by what the shelf gave, with every cause.
-    ensures run { (name : List ℕ) (bound : ℕ) → IsRun words.now name bound
-        → (fetched : Result (List ℕ) ShelfFault) × Runs result fetched (F.told shelf.old) (F.told shelf.new) (W.told out.old) (W.told out.new) name bound }
-    // Where no fault was counted, it is the run of the file that the shelf holds, unless memory was wanting.
-    ensures due { (name : List ℕ) (bound : ℕ) → IsRun words.now name bound
+    ensures run { (order : Order) → order_of words.now ≡ Some order → RunsFiles result order (F.told shelf.old) (F.told shelf.new) (W.told out.old) (W.told out.new) }
+    // Where no fault was counted, it is the run of the files that the shelf holds, unless memory was wanting.
+    ensures due { (order : Order) → order_of words.now ≡ Some order
         → IsCalm (F.told shelf.old).faults (F.told shelf.new).faults → IsCalm (W.told out.old).faults (W.told out.new).faults
-        → IfSome (F.told shelf.old).files (λ files. HasDone result (W.told out.old).written (W.told out.new).written (held_due name (file_at files name) bound)) }
+        → IfSome (F.told shelf.old).files (λ files. HasDone result (W.told out.old).written (W.told out.new).written (files_due order (file_at files order.image_name) (file_at files order.scenario_name))) }
+    // A run that halts, of files that are held and accepted, is written whole, unless memory was wanting.
+    ensures complete { (order : Order) → order_of words.now ≡ Some order → (ready : IsReady order (F.told shelf.old) (W.told out.old))
+        → Succeeds order (F.told shelf.old) (W.told out.old) (W.told out.new) ready result }
 
     // Each status comes only for its cause. Memory is free, and then nothing is written.
     ensures status_done { result ≡ Status.Done → NoneRose (F.told shelf.old) (F.told shelf.new) (W.told out.old) (W.told out.new) }
-    ensures status_budget_spent { result ≡ Status.BudgetSpent → RanTo (λ end. end ≡ BudgetSpent) words.now (F.told shelf.old) }
-    ensures status_usage { result ≡ Status.Usage → IsNoCommand words.now }
-    ensures status_absent { result ≡ Status.Absent → IsAbsent words.now (F.told shelf.old) (F.told shelf.new) (W.told out.old) (W.told out.new) }
-    ensures status_shelf_failed { result ≡ Status.ShelfFailed → HasFailed words.now (F.told shelf.old) (F.told shelf.new) (W.told out.old) (W.told out.new) }
-    ensures status_refused { result ≡ Status.Refused → IsTooLarge words.now (F.told shelf.old) }
+    ensures status_budget_spent { result ≡ Status.BudgetSpent → RanTo (λ end. end ≡ BudgetSpent) (order_of words.now) (F.told shelf.old) (F.told shelf.new) }
+    ensures status_usage { result ≡ Status.Usage → order_of words.now ≡ None }
+    ensures status_absent { result ≡ Status.Absent → IsAbsent (order_of words.now) (F.told shelf.old) (F.told shelf.new) (W.told out.old) (W.told out.new) }
+    ensures status_shelf_failed { result ≡ Status.ShelfFailed → HasFailed (order_of words.now) (F.told shelf.old) (F.told shelf.new) (W.told out.old) (W.told out.new) }
+    ensures status_refused { result ≡ Status.Refused → IsRefusedRun (order_of words.now) (F.told shelf.old) (F.told shelf.new) (W.told out.old) (W.told out.new) }
     ensures status_sink_failed { result ≡ Status.SinkFailed → Rose (W.told out.old).faults (W.told out.new).faults }
     ensures status_memory { result ≡ Status.Memory → Writes true (W.told out.old) (W.told out.new) [] }
-    ensures status_vector_fault { result ≡ Status.VectorFault → RanTo (λ end. (id : ℕ) × (steps : ℕ) × (end ≡ VectorFault id steps)) words.now (F.told shelf.old) }
+    ensures status_vector_fault { result ≡ Status.VectorFault → RanTo (λ end. (id : ℕ) × (steps : ℕ) × (end ≡ VectorFault id steps)) (order_of words.now) (F.told shelf.old) (F.told shelf.new) }
 
     // Faults of the outside decide the status, those of the sink first.
     ensures sink_faults_rose { (W.told out.old).faults < (W.told out.new).faults → result ≡ Status.SinkFailed }

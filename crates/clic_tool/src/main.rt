@@ -1,18 +1,30 @@
-// The command of the board: `clic_tool run FILE BOUND`.
+// The command of the board: `clic_tool run IMAGE SCENARIO BOUND`.
 #![tactic(auto)]
 
 #[cfg(test)]
 mod board_tests;
 mod command;
+#[cfg(test)]
+mod interrupt_tests;
 mod order;
 #[cfg(test)]
 mod order_tests;
+#[cfg(test)]
+mod program_tests;
+mod refusal;
+#[cfg(test)]
+mod refusal_tests;
 mod run_command;
 mod run_order;
+#[cfg(test)]
+mod run_tests;
+mod running;
+#[cfg(test)]
+mod sink_tests;
+mod stages;
 mod status;
 #[cfg(test)]
 mod tests;
-mod words;
 mod writing;
 
 use board_outside::{FileShelf, StdSink, Words};

@@ -1,5 +1,5 @@
 -- The Counter, which counts the bytes that come. Its state is the count.
-use Rattle.std.specs.Prelude.{◌≡◌, ℕ, ◌+◌, ◌-◌, ◌^◌, ◌<◌, ◌==◌, List, [], ◌∷◌, None, min, not, slice_index}
+use Rattle.std.specs.Prelude.{◌≡◌, ℕ, ◌+◌, ◌-◌, ◌^◌, ◌<◌, ◌==◌, List, [], ◌∷◌, None, Some, min, not, slice_index, if◌then◌else◌}
 use Rattle.device_model.specs.declared.stimulus.Stimulus.{Stimulus}
 use Rattle.device_model.specs.declared.stimulus.Stimulus.TheVariants.{Receive, Pins, Tick}
 use Rattle.device_model.specs.WordRegisters.{WordRegisters}
@@ -20,7 +20,7 @@ counter_after s (Tick n) = s
 -- | offset | load  | store         |
 -- | 0      | count | count = value |
 --
--- The line is high where the count isn't 0.
+-- The line is high where the count isn't 0. At the greatest count the board is halted with code 1.
 abbrev pub counter : WordRegisters
 counter = record {
   IsState = IsCounter;
@@ -30,6 +30,6 @@ counter = record {
   stores = λ s value. (0x0, value ∷ []) ∷ [];
   after_stimulus = counter_after;
   lines = λ s. not (count_of s == 0) ∷ [];
-  halted = λ s. None;
+  halted = λ s. if count_of s == 2 ^ 32 - 1 then Some 1 else None;
   output_of = λ s. [];
 }

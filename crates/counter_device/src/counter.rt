@@ -8,7 +8,8 @@ use device_model::{Device, Stimulus};
 use hart_words::WantOfMemory;
 use std::alloc::Global;
 
-/// Counts the bytes that come, in a register that can be read and written. Its line is high where the count isn't 0.
+/// Counts the bytes that come, in a register that can be read and written. Its line is high where
+/// the count isn't 0. At the greatest count it halts the board with code 1.
 #[derive(Drop)]
 pub struct Counter {
     count: u32,
@@ -78,7 +79,11 @@ impl Device for Counter {
 
     #[inline]
     fn halt(&self) -> Option<u32> {
-        None
+        if self.count == u32::MAX {
+            Some(1)
+        } else {
+            None
+        }
     }
 
     #[inline]

@@ -1,5 +1,5 @@
 -- What each access of a state keeps is kept by the whole step. ROM, and the lines of the controller, are such.
-use Rattle.std.proofs.Common.{◌≡◌, ℕ, ◌+◌, ◌%◌, ◌==◌, Bool, true, false, List, Option, Some, None, Result, Ok, Err, refl}
+use Rattle.std.proofs.Common.{◌≡◌, ℕ, ◌+◌, ◌%◌, ◌==◌, Bool, true, false, Option, Some, None, Result, Ok, Err, refl}
 use Rattle.std.specs.Prelude.{⊤}
 use Rattle.hart_words.specs.TwosComplement.{word}
 use Rattle.device_model.specs.Meanings.{Meanings}

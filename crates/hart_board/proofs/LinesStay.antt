@@ -1,5 +1,5 @@
 -- The controller's lines stay, or are set to the device's.
-use Rattle.std.proofs.Common.{◌≡◌, ℕ, zero, suc, ◌+◌, ◌/◌, ◌%◌, ◌==◌, List, Bool, true, false, Option, Some, None, slice_set, nat_le, if◌then◌else◌, inl, inr, ◌⊎◌, refl, sym, ◌∙◌, ap, subst}
+use Rattle.std.proofs.Common.{◌≡◌, ℕ, zero, suc, ◌+◌, ◌/◌, ◌%◌, ◌==◌, List, Bool, true, false, Option, Some, None, slice_set, nat_le, if◌then◌else◌, inl, inr, refl, sym, ◌∙◌, ap, subst}
 use Rattle.std.specs.Option.{option_map}
 use Rattle.hart_words.specs.Bits.{bits}
 use Rattle.device_model.specs.Meanings.{Meanings}
@@ -33,7 +33,7 @@ use Rattle.hart_board.specs.Step.{step}
 use Rattle.hart_board.specs.Kinds.{HasLinesOf}
 use Rattle.hart_board.specs.declared.region.Region.{Region}
 use Rattle.hart_board.specs.declared.region.Region.TheVariants.{Controller, Devices, Nowhere}
-use Rattle.hart_board.proofs.Keeping.{Holds, step_holds}
+use Rattle.hart_board.proofs.Keeping.{step_holds}
 
 -- ---- a claim, and a write to the controller, keep the lines
 

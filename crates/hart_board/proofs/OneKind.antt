@@ -1,5 +1,5 @@
 -- In each state that has not halted exactly one kind of step is possible, and what steps leave.
-use Rattle.std.proofs.Common.{◌≡◌, ℕ, Bool, true, false, ◌&&◌, Option, Some, None, Result, Ok, Err, inl, inr, ◌⊎◌, refl, sym, ◌∙◌, ap}
+use Rattle.std.proofs.Common.{◌≡◌, ℕ, Bool, true, false, ◌&&◌, Option, Some, None, Result, Ok, Err, inl, inr, refl, sym, ◌∙◌, ap}
 use Rattle.device_model.specs.Meanings.{Meanings}
 use Rattle.csr_file.specs.CsrState.{CsrState}
 use Rattle.clic_select.specs.Top.{top}
@@ -10,8 +10,8 @@ use Rattle.clic_trap.specs.declared.entered.Entered.{Entered}
 use Rattle.clic_trap.specs.declared.entered.Entered.TheVariants.{At, VectorFault as Faults}
 use Rattle.hart_board.specs.State.{State}
 use Rattle.hart_board.specs.Attempt.{attempt}
-use Rattle.hart_board.specs.Step.{Turn, step, turn_or_halted, turn_by, settled, raised, interrupted, entered_at}
-use Rattle.hart_board.specs.Kinds.{Interrupts, Retires, Raises, IsStep, KeepsAll}
+use Rattle.hart_board.specs.Step.{Turn, step, turn_or_halted, turn_by, settled, entered_at}
+use Rattle.hart_board.specs.Kinds.{IsStep, KeepsAll}
 use Rattle.hart_board.specs.declared.trap.Trap.{Trap}
 use Rattle.hart_board.specs.declared.encoding.Encoding.{Encoding}
 use Rattle.hart_board.specs.declared.stepped.Stepped.TheVariants.{Raised}

@@ -4,7 +4,7 @@ use Rattle.device_model.specs.Meanings.{Meanings}
 use Rattle.hart_memory.specs.Memory.{Memory}
 use Rattle.hart_board.specs.State.{Outside, State}
 use Rattle.hart_board.specs.Step.{step}
-use Rattle.hart_board.proofs.Keeping.{Holds, step_holds}
+use Rattle.hart_board.proofs.Keeping.{step_holds}
 
 abbrev HasRom : List ℕ → Memory → Outside → Type 0
 HasRom rom memory outside = memory.rom ≡ rom

@@ -1,5 +1,5 @@
 -- An instruction: its fetch, what its bits spell, and what it does. Where it raises no state comes of it.
-use Rattle.std.specs.Prelude.{ℕ, ◌+◌, ◌%◌, ◌^◌, ◌==◌, if◌then◌else◌, Bool, true, false, Option, Some, None, Result, Ok, Err}
+use Rattle.std.specs.Prelude.{ℕ, ◌+◌, ◌%◌, ◌^◌, ◌==◌, if◌then◌else◌, Bool, Option, Some, None, Result, Ok, Err}
 use Rattle.std.specs.Option.{option_map}
 use Rattle.hart_words.specs.TwosComplement.{word}
 use Rattle.hart_words.specs.Registers.{with_register}

@@ -1,5 +1,5 @@
 -- What comes from outside the board.
-use Rattle.std.specs.Prelude.{◌≡◌, ℕ, ◌+◌, ◌≤◌, Bool, true, ◌&&◌, ◌||◌, nat_lt, nat_le, List, [], ◌∷◌, IsTrue, ⊤}
+use Rattle.std.specs.Prelude.{ℕ, ◌+◌, ◌≤◌, ◌==◌, Bool, true, ◌&&◌, ◌||◌, nat_lt, nat_le, List, [], ◌∷◌, Option, Some, None, IsTrue, ⊤, if◌then◌else◌}
 use Rattle.device_model.specs.Meanings.{Meanings}
 use Rattle.clic_regs.specs.LineChange.{line_changed}
 use Rattle.clic_regs.specs.declared.TheConstants.{INPUTS}
@@ -33,3 +33,17 @@ last_count n (e ∷ es) = last_count e.at es
 abbrev pub AreEventsFrom : ℕ → List Event → Type 0
 AreEventsFrom n [] = ⊤
 AreEventsFrom n (e ∷ es) = (n ≤ e.at) × IsTrue (is_free e.what) × AreEventsFrom e.at es
+
+-- a board that has halted takes nothing more from outside
+abbrev pub arrived_by : Meanings → State → What → Option ℕ → State
+arrived_by m s what (Some code) = s
+arrived_by m s what None = applied m s what
+
+-- the state after what comes in a run: it is applied, but for a board that has halted
+unfoldable pub arrived : Meanings → State → What → State
+arrived m s what = arrived_by m s what (m.halted s.outside.device)
+
+-- the state after the events of a count, in their order
+unfoldable pub with_events : Meanings → ℕ → List Event → State → State
+with_events m count [] s = s
+with_events m count (e ∷ es) s = with_events m count es (if e.at == count then arrived m s e.what else s)

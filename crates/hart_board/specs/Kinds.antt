@@ -1,5 +1,5 @@
 -- The kinds of step, as relations between a state and what comes of it.
-use Rattle.std.specs.Prelude.{◌≡◌, ℕ, ◌⊎◌, true, false, Some, None, Ok, Err}
+use Rattle.std.specs.Prelude.{◌≡◌, ◌⊎◌, true, false, Some, Ok, Err}
 use Rattle.device_model.specs.Meanings.{Meanings}
 use Rattle.clic_select.specs.Top.{top}
 use Rattle.clic_select.specs.declared.choice.Choice.{Choice}
@@ -13,7 +13,7 @@ use Rattle.hart_board.specs.Attempt.{attempt}
 use Rattle.hart_board.specs.Step.{Turn, raised, interrupted}
 use Rattle.hart_board.specs.declared.trap.Trap.{Trap}
 use Rattle.hart_board.specs.declared.encoding.Encoding.{Encoding}
-use Rattle.hart_board.specs.declared.stepped.Stepped.TheVariants.{Retired, Raised}
+use Rattle.hart_board.specs.declared.stepped.Stepped.TheVariants.{Retired}
 
 -- the interrupt of the top is due, and is entered
 pub record Interrupts (s : State) (turn : Turn) : Type 0 where

@@ -1,9 +1,11 @@
 // Laws on the definitions, for every device.
-ghost use Rattle.std.specs.Prelude.{◌≡◌, ℕ, None};
+ghost use Rattle.std.specs.Prelude.{◌≡◌, ℕ, List, None};
 ghost use Rattle.hart_board.specs.State.{State};
 ghost use Rattle.hart_board.specs.Step.{Turn, step};
 ghost use Rattle.hart_board.specs.Kinds.{IsStep, KeepsAll, HasLinesOf};
-ghost use Rattle.hart_board.specs.Run.{run_of, EndsAfter};
+ghost use Rattle.hart_board.specs.Run.{run_of, steps_of};
+ghost use Rattle.hart_board.specs.Steps.{EndsAs, board_at, told_to};
+ghost use Rattle.hart_board.specs.declared.event.Event.{Event};
 ghost use Rattle.hart_board.specs.declared.stepped.Stepped.TheVariants.{Raised};
 
 use device_model::Device;
@@ -29,7 +31,11 @@ pub fn lines_stay<D: Device>()
     ensures { (s : State) → HasLinesOf D.means s.outside.clic (step D.means s).state.outside }
 {}
 
-/// A run is steps from a state, none of them after a halt, up to the end that it has.
+/// A run ends at the first count at which the board has halted, else at the bound, else at a step
+/// that finds no vector. It stands after so many steps, with the events of each count up to
+/// then, and tells what became of each step.
 pub fn run_is_steps<D: Device>()
-    ensures { (bound : ℕ) (s : State) → EndsAfter D.means 0 bound s (run_of D.means bound s).0 (run_of D.means bound s).1 }
+    ensures ends { (es : List Event) (bound : ℕ) (s : State) → EndsAs D.means es s bound (run_of D.means es bound s).end }
+    ensures state { (es : List Event) (bound : ℕ) (s : State) → (run_of D.means es bound s).state ≡ board_at D.means es s (steps_of bound (run_of D.means es bound s).end) }
+    ensures steps { (es : List Event) (bound : ℕ) (s : State) → (run_of D.means es bound s).steps ≡ told_to D.means es s (steps_of bound (run_of D.means es bound s).end) }
 {}

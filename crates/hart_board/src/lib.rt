@@ -2,8 +2,11 @@
 // with a report.
 #![tactic(auto)]
 
+mod arrivals;
 mod board;
+mod contents;
 mod controller;
+mod dead_bytes;
 mod decoding;
 mod encoding;
 mod event;
@@ -17,10 +20,13 @@ mod running;
 mod stepped;
 #[cfg(test)]
 mod tests;
+mod trace;
 mod trap;
 mod what;
 
 pub use board::Board;
+pub use contents::{put_output, put_ram};
+pub use dead_bytes::{DeadBytes, NoDeadBytes};
 pub use event::Event;
 pub use events::Events;
 pub use outside::{FIRST_DEVICE_INPUT, MOST_DEVICE_LINES};

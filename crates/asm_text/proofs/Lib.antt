@@ -1,0 +1,12 @@
+pub mod Digits
+pub mod Scanning
+pub mod Texts
+pub mod Numerals
+pub mod Rereading
+pub mod Inline
+pub mod NameLemmas
+pub mod NameLaws
+pub mod FrontFacts
+pub mod ReadLaw
+pub mod OneWay
+pub mod Magnitudes

@@ -1,0 +1,9 @@
+pub mod Bytes
+pub mod Numbers
+pub mod Words
+pub mod Lexing
+pub mod Fronts
+pub mod Pieces
+pub mod Reading
+pub mod Names
+pub mod Tables

@@ -1,0 +1,15 @@
+pub mod Segments
+pub mod SegmentLoop
+pub mod ImageAgain
+pub mod ImageFound
+pub mod Digits
+pub mod NumberText
+pub mod CutText
+pub mod LineAgain
+pub mod LineTold
+pub mod LinePassed
+pub mod LineLoop
+pub mod Scenario
+pub mod ScenarioFault
+pub mod Placing
+pub mod Loading

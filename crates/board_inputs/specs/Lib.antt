@@ -1,0 +1,11 @@
+pub mod InTurn
+pub mod ImageFile
+pub mod ImageReading
+pub mod Spelling
+pub mod ScenarioFile
+pub mod Cuts
+pub mod Numbers
+pub mod Lines
+pub mod FirstWrong
+pub mod ScenarioReading
+pub mod ImageLoading

@@ -1,0 +1,55 @@
+#!/bin/sh
+# Runs the program on files of the system: an absent file, a folder, a name with a space, files that are
+# refused, and outputs that take nothing. Compares its text, its status and what goes to standard error.
+top=$(cd "$(dirname "$0")/.." && pwd)
+command -v rt >/dev/null || { echo "real files: skipped, since there is no rt"; exit 0; }
+folder=$(mktemp -d)
+trap 'rm -rf "$folder"' EXIT
+cd "$folder" || exit 1
+
+mkdir folder.img
+cp "$top/examples/first.img" first.img
+cp "$top/examples/first.img" "a name.img"
+: >empty.txt
+printf '5 line 16 1\n' >bad.txt
+printf 'XXXX' >bad.img
+head -c 262145 /dev/zero >large.img
+"$top/clic_tool" >usage.txt 2>/dev/null
+
+fail() {
+    echo "real files: $1" >&2
+    exit 1
+}
+
+# The status, the text, and the words of the command.
+answers() {
+    status=$1
+    text=$2
+    shift 2
+    "$top/clic_tool" "$@" >out 2>err
+    given=$?
+    [ "$given" -eq "$status" ] || fail "$*: status $given in place of $status"
+    printf '%b' "$text" | cmp - out || fail "$*: another text"
+    [ -s err ] && fail "$*: something went to standard error"
+}
+
+answers 3 'absent no.img\n' run no.img empty.txt 10
+answers 3 'absent no.txt\n' run first.img no.txt 10
+answers 4 'shelf failed folder.img\n' run folder.img empty.txt 10
+answers 4 'shelf failed folder.img\n' run first.img folder.img 10
+answers 5 'refused image BadMagic 0\n' run bad.img no.txt 10
+answers 5 'refused scenario BadLine 1\n' run first.img bad.txt 10
+answers 5 'refused image TooLarge\n' run large.img empty.txt 10
+answers 2 'usage: clic_tool asm | disasm | run | chain | monitor | gen\n' run first.img empty.txt
+
+# A name with a space.
+"$top/clic_tool" run "a name.img" empty.txt 100 >out 2>err || fail "a name with a space: status $?"
+cmp out "$top/examples/first.report" || fail "a name with a space: another text"
+
+# An output that is full, one that is closed, and one that can't be written.
+"$top/clic_tool" run first.img empty.txt 100 >/dev/full 2>err
+[ $? -eq 6 ] || fail "a full output: not status 6"
+"$top/clic_tool" run first.img empty.txt 100 >&- 2>err
+[ $? -eq 6 ] || fail "a closed output: not status 6"
+[ -s err ] && fail "a failed output: something went to standard error"
+echo "real files: as README says"
