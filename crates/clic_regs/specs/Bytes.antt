@@ -25,6 +25,20 @@ byte_at n offset =
     else if nat_lt offset (0x1000 + 4 * n) then Some (input_byte ((offset - 0x1000) / 4) (offset % 4))
     else None
 
+-- the input whose byte it is
+abbrev pub input_in : Option ClicByte → Option ℕ
+input_in None = None
+input_in (Some Config) = None
+input_in (Some Reserved) = None
+input_in (Some (Pending i)) = Some i
+input_in (Some (Enable i)) = Some i
+input_in (Some (Attribute i)) = Some i
+input_in (Some (Control i)) = Some i
+
+-- the input one of whose four bytes stands at an offset, where there are n inputs
+unfoldable pub input_at : ℕ → ℕ → Option ℕ
+input_at n offset = input_in (byte_at n offset)
+
 -- what a byte reads
 abbrev pub value_of : ClicState → ClicByte → ℕ
 value_of c Config = c.nlbits * 2

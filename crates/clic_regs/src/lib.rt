@@ -10,7 +10,7 @@ mod level;
 mod tests;
 
 pub use clic::Clic;
-pub use clic_byte::ClicByte;
+pub use clic_byte::{ClicByte, input_of};
 
 /// How many inputs the controller has.
 pub const INPUTS: u32 = 64;

@@ -69,3 +69,20 @@ fn lines(rt: HostRuntime) -> Result<(), Fail> {
     }
     Ok(())
 }
+
+#[test]
+fn inputs_by_offset(rt: HostRuntime) {
+    let rows = [
+        (0x0, None),
+        (0x3, None),
+        (0xFFF, None),
+        (0x1000, Some(0)),
+        (0x1003, Some(0)),
+        (0x1004, Some(1)),
+        (0x10FF, Some(63)),
+        (0x1100, None),
+    ];
+    for (offset, input) in rows {
+        assert_eq!(rt; input_of(offset), input, "at {offset}");
+    }
+}

@@ -1,1 +1,3 @@
 pub mod Tops
+pub mod Waiting
+pub mod Winners

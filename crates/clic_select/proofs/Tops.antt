@@ -11,13 +11,13 @@ use Rattle.clic_select.specs.declared.choice.Choice.{Choice}
 use Rattle.clic_select.specs.Top.{is_waiting, choice_of, is_greater, IsTop, NoneWaits, greater, greatest_of, top}
 
 -- the order of choices
-not_above_itself : (a : Choice) → is_greater a a ≡ false
+pub not_above_itself : (a : Choice) → is_greater a a ≡ false
 not_above_itself a = grind (arith, nat_tests)
 
-not_both : (a b : Choice) → is_greater a b ≡ true → is_greater b a ≡ false
+pub not_both : (a b : Choice) → is_greater a b ≡ true → is_greater b a ≡ false
 not_both a b h = grind (arith, nat_tests)
 
-not_above_the_greater : (a b c : Choice) → is_greater a b ≡ false → is_greater b c ≡ false → is_greater a c ≡ false
+pub not_above_the_greater : (a b c : Choice) → is_greater a b ≡ false → is_greater b c ≡ false → is_greater a c ≡ false
 not_above_the_greater a b c h k = grind (arith, nat_tests)
 
 same_place : (a b : Choice) → is_greater a b ≡ false → is_greater b a ≡ false → a.id ≡ b.id
@@ -95,7 +95,7 @@ both_left : (x y : Bool) → (x && y) ≡ true → x ≡ true
 both_left true y h = refl
 both_left false y h = h
 
-waits_inside : (c : ClicState) (i : ℕ) → is_waiting c i ≡ true → i < length c.pending
+pub waits_inside : (c : ClicState) (i : ℕ) → is_waiting c i ≡ true → i < length c.pending
 waits_inside c i h = inside c.pending i (both_left (is_pending c i) (is_enabled c i) h)
 
 -- two tops are one

@@ -14,7 +14,7 @@ pub struct Choice {
 }
 
 impl Choice {
-    ghost use Rattle.clic_select.specs.Top.{choice_of, is_greater, greater};
+    ghost use Rattle.clic_select.specs.Top.{choice_of, is_greater};
 
     /// An input of the controller.
     #[inline]
@@ -39,16 +39,5 @@ impl Choice {
             || (self.level == other.level
                 && (self.priority > other.priority
                     || (self.priority == other.priority && self.id > other.id)))
-    }
-
-    /// The greater of the best so far and this one.
-    #[inline]
-    pub(crate) fn or_greater(self, best: Option<Choice>) -> Choice
-        ensures { result ≡ greater best self }
-    {
-        match best {
-            Some(best) if best.is_greater(self) => best,
-            _ => self,
-        }
     }
 }

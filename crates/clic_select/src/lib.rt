@@ -4,8 +4,12 @@
 mod choice;
 pub mod laws;
 mod selector;
+mod steps;
 #[cfg(test)]
 mod tests;
+mod tree;
 
 pub use choice::Choice;
 pub use selector::Selector;
+pub use steps::Steps;
+pub use tree::beats;

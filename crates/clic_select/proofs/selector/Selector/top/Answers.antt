@@ -1,16 +1,18 @@
-use Rattle.std.proofs.Common.{ap, ◌∙◌, sym, length}
+use Rattle.std.proofs.Common.{ap, ◌∙◌, sym, length, arith}
 use Rattle.clic_select.specs.Top.{top}
-use Rattle.clic_select.proofs.Tops.{no_top, found_top, found_none, found_input}
+use Rattle.clic_select.proofs.Tops.{found_top, found_none, found_input}
+use Rattle.clic_select.proofs.Winners.{root_at}
 use Rattle.clic_select.proofs.selector.Selector.top.Goals as goal
 
-pub returns-then-self-clause-value : goal.returns-then-self-clause-value
-returns-then-self-clause-value c = sym (ap top (sym c.self.view_is) ∙ no_top _ (c.self.invariant c.if-self.true))
+pub returns-clause-value : goal.returns-clause-value
+returns-clause-value c =
+    c.index.ensures ∙ root_at c.self.inside.clic 64 c.self.inside.nodes.items _ c.self.invariant.tree c.self.invariant.leaves c.self.invariant.inputs (omega arith) ∙ ap top c.self.view_is
 
-pub returns-else-self-clause-greatest : goal.returns-else-self-clause-greatest
-returns-else-self-clause-greatest c = found_top _ _ (c.greatest.ensures.top ∙ ap top c.self.view_is)
+pub returns-clause-greatest : goal.returns-clause-greatest
+returns-clause-greatest c = found_top _ _ (returns-clause-value c)
 
-pub returns-else-self-clause-none : goal.returns-else-self-clause-none
-returns-else-self-clause-none c = found_none _ _ (c.greatest.ensures.top ∙ ap top c.self.view_is)
+pub returns-clause-none : goal.returns-clause-none
+returns-clause-none c = found_none _ _ (returns-clause-value c)
 
-pub returns-else-self-clause-input : goal.returns-else-self-clause-input
-returns-else-self-clause-input c = found_input _ _ _ (c.greatest.ensures.top ∙ ap top c.self.view_is) (ap (λ s. length s.pending) (sym c.self.view_is) ∙ c.greatest.ensures.inputs)
+pub returns-clause-input : goal.returns-clause-input
+returns-clause-input c = found_input _ _ _ (returns-clause-value c) (ap (λ s. length s.pending) (sym c.self.view_is) ∙ c.self.invariant.inputs)

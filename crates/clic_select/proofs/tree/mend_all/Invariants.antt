@@ -1,0 +1,13 @@
+use Rattle.std.proofs.Common.{◌≡◌, ℕ, ◌+◌, ◌-◌, ◌<◌, ◌≤◌, length}
+use Rattle.clic_select.specs.Tree.{node, IsWinner}
+use Rattle.clic_select.proofs.tree.mend_all.Given as goal
+
+-- the nodes so far are winners
+abbrev pub invariant-loop-done : goal.invariant-loop-done
+invariant-loop-done g l = record {
+  some : 1 ≤ l.done;
+  size : length l.nodes ≡ 128;
+  mended : (j : ℕ) → 64 - l.done < j → j < 64 → IsWinner l.nodes j;
+  leaves : (j : ℕ) → 64 ≤ j → node l.nodes j ≡ node l.fn.nodes j;
+  cost : l.steps + 1 ≤ l.fn.steps + l.done;
+}
