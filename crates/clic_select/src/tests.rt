@@ -1,3 +1,5 @@
+ghost use Rattle.std.specs.Prelude.{◌≡◌, ◌<◌};
+
 use super::*;
 use clic_regs::{Clic, INPUTS};
 use std::marker::Brand;
