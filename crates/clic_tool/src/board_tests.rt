@@ -44,8 +44,8 @@ fn has_csrs<D: Device>(board: &Board<D>, wanted: &[(u16, u32)]) -> bool {
         .all(|row| board.csrs().read(row.0) == Some(row.1))
 }
 
-/// The program at 0x200, with these words changed, and the handler of input 3.
-pub fn place_preempts<D: Device>(rt: &impl Abort, board: &mut Board<D>, changes: &[(u32, u32)]) {
+// The program at 0x200, with these words changed, and the handler of input 3.
+fn place_preempts<D: Device>(rt: &impl Abort, board: &mut Board<D>, changes: &[(u32, u32)]) {
     place_words(rt, board, 0x200, &PREEMPTS);
     place_words(rt, board, 0x10C, &[0x26C]);
     for change in changes {
