@@ -1,0 +1,11 @@
+pub mod Integers
+pub mod Names
+pub mod Items
+pub mod Chosen
+pub mod Entries
+pub mod Zeros
+pub mod Onward
+pub mod Adding
+pub mod Keeping
+pub mod Located
+pub mod Told

@@ -1,0 +1,15 @@
+pub mod Operands
+pub mod Fields
+pub mod Sets
+pub mod Forms
+pub mod Operations
+pub mod Statements
+pub mod Seen
+pub mod Symbols
+pub mod Laying
+pub mod Stops
+pub mod Lines
+pub mod Source
+pub mod Answers
+pub mod Placing
+pub mod Relation

@@ -1,0 +1,106 @@
+-- What it is for a program to be that of a source, said line by line.
+use Rattle.std.specs.Prelude.{◌≡◌, ℕ, ◌+◌, ◌-◌, ◌<◌, ◌≤◌, ◌⊎◌, true, List, [], ◌∷◌, ◌++◌, length, map, slice_get, slice_index, option_to_list, Option, Some, None}
+use Rattle.std.specs.declared.result.Result.{Result}
+use Rattle.std.specs.declared.result.Result.TheVariants.{Ok, Err}
+use Rattle.hart_memory.specs.Image.{SegmentView, byte_count}
+use Rattle.rv_assembler.specs.Operations.{made, operation_fits, extent_of, bytes_of}
+use Rattle.rv_assembler.specs.Statements.{Task, Reading, reading}
+use Rattle.rv_assembler.specs.Symbols.{Symbol, address_of}
+use Rattle.rv_assembler.specs.Lines.{lines_of}
+use Rattle.rv_assembler.specs.Source.{resolved, task_of, Program}
+use Rattle.rv_assembler.specs.declared.asm_why.AsmWhy.{AsmWhy}
+use Rattle.rv_assembler.specs.declared.kind.Kind.TheVariants.{Entry}
+use Rattle.rv_assembler.specs.declared.operation.Operation.{Operation}
+use Rattle.rv_assembler.specs.declared.operation.Operation.TheVariants.{Enters}
+use Rattle.rv_assembler.specs.declared.extent.Extent.{Extent}
+use Rattle.rv_assembler.specs.declared.extent.Extent.TheVariants.{Jumps, Marks, Takes}
+
+-- a segment has the byte v at the address a
+pub record HasByte (segments : List SegmentView) (a v : ℕ) : Type 0 where
+  pub number : ℕ
+  pub segment : SegmentView
+  pub is : slice_get segments number ≡ Some segment
+  pub from : segment.address ≤ a
+  pub inside : a < segment.address + length segment.content
+  pub byte : slice_index segment.content (a - segment.address) ≡ v
+
+-- the bytes stand one after another from a place on
+abbrev pub HasBytes : List SegmentView → ℕ → List ℕ → Type 0
+HasBytes segments place bytes = (k : ℕ) → k < length bytes → HasByte segments (place + k) (slice_index bytes k)
+
+-- the label is a symbol, and its address is this place
+abbrev pub IsLabelled : List Symbol → ℕ → Option (List ℕ) → Type 0
+IsLabelled symbols place None = Unit {0}
+IsLabelled symbols place (Some t) = address_of symbols t ≡ Some place
+
+-- an `.entry` names the image's entry
+abbrev pub IsEntry : ℕ → Operation → Type 0
+IsEntry start (Enters e) = start ≡ e
+IsEntry start _ = Unit {0}
+
+-- the bytes that spell the instruction stand at its place, where its number is that of the labels' addresses
+abbrev pub IsDone : Program → ℕ → Option Task → Type 0
+IsDone p place None = Unit {0}
+IsDone p place (Some k) =
+    (number : ℕ) × (resolved p.symbols place k.operands.number ≡ Ok number) × (operation_fits (made k.kind k.operands number) ≡ true) × HasBytes p.image.segments place (bytes_of (made k.kind k.operands number)) × IsEntry p.image.start (made k.kind k.operands number)
+
+-- a line at its place
+pub record IsLine (p : Program) (place : ℕ) (line : List ℕ) : Type 0 where
+  pub read : Reading
+  pub task : Option Task
+  pub reads : reading line ≡ Ok read
+  pub asks : read.statement ≡ Ok task
+  pub label : IsLabelled p.symbols place read.label
+  pub done : IsDone p place task
+
+-- what a line does to the place, from the line alone
+abbrev pub extent_by : Option Task → Extent
+extent_by None = Marks
+extent_by (Some k) = extent_of k.kind k.operands.amount
+
+-- the place behind a line: an `.org` sets it, and any other line adds its length
+abbrev pub behind : Extent → ℕ → ℕ
+behind (Jumps p) place = p
+behind Marks place = place
+behind (Takes n) place = place + n
+
+-- each line stands at its place, the first of them at this one
+abbrev pub AreLines : Program → ℕ → List (List ℕ) → Type 0
+AreLines p place [] = Unit {0}
+AreLines p place (l ∷ ls) = (here : IsLine p place l) × AreLines p (behind (extent_by here.task) place) ls
+
+abbrev pub label_in : Result Reading AsmWhy → List (List ℕ)
+label_in (Ok r) = option_to_list r.label
+label_in (Err e) = []
+
+-- the labels of lines, in their order
+abbrev pub labels_in : List (List ℕ) → List (List ℕ)
+labels_in [] = []
+labels_in (l ∷ ls) = label_in (reading l) ++ labels_in ls
+
+abbrev pub length_by : Extent → ℕ
+length_by (Jumps p) = 0
+length_by Marks = 0
+length_by (Takes n) = n
+
+-- how many bytes lines have, each from the line alone
+abbrev pub length_of : List (List ℕ) → ℕ
+length_of [] = 0
+length_of (l ∷ ls) = length_by (extent_by (task_of (reading l))) + length_of ls
+
+abbrev pub NamesEntry : Option Task → Type 0
+NamesEntry None = ⊥
+NamesEntry (Some k) = k.kind ≡ Entry
+
+-- one of the lines is an `.entry`
+abbrev pub HaveEntry : List (List ℕ) → Type 0
+HaveEntry [] = ⊥
+HaveEntry (l ∷ ls) = NamesEntry (task_of (reading l)) ⊎ HaveEntry ls
+
+-- the program is that of the source: each line stands at its place, the first of them at 0, and the symbols are the
+-- lines' labels in their order; no other bytes are in the image, and a line names its entry
+pub record IsSource (source : List ℕ) (p : Program) : Type 0 where
+  pub lines : AreLines p 0 (lines_of source)
+  pub names : map (λ s. s.name) p.symbols ≡ labels_in (lines_of source)
+  pub count : byte_count p.image.segments ≡ length_of (lines_of source)
+  pub entry : HaveEntry (lines_of source)

@@ -1,0 +1,9 @@
+// What a line does to the place.
+
+/// The place becomes another, stays while the line names the entry, or moves on over so many bytes.
+#[derive(Clone, Copy, Debug, PartialEq, Eq, Drop)]
+pub enum Extent {
+    Jumps(u32),
+    Marks,
+    Takes(u32),
+}

@@ -1,0 +1,7 @@
+// A row of the table of forms.
+use crate::item::Item;
+use crate::kind::Kind;
+
+/// A name, the operands that follow it, and what the line does. What no operand gives is 0.
+#[derive(Clone, Copy, Drop)]
+pub struct Form(pub &'static str, pub &'static [Item], pub Kind);

@@ -1,0 +1,10 @@
+// What it is for a program to be that of a source.
+ghost use Rattle.std.specs.Prelude.{◌≡◌, ℕ, List, Ok};
+ghost use Rattle.rv_assembler.specs.Source.{Program, assembled};
+ghost use Rattle.rv_assembler.specs.Relation.{IsSource};
+
+/// Each line of an assembled source stands at its place: the last `.org` before it plus the lengths since. Its label
+/// is a symbol with that address, and the bytes that spell its instruction stand there in the image.
+pub fn each_line_stands_at_its_place()
+    ensures { (source : List ℕ) (p : Program) → assembled source ≡ Ok p → IsSource source p }
+{}

@@ -1,0 +1,18 @@
+// What a line does once its operands are known.
+use rv_encoding::Ins;
+use rvc_encoding::Cins;
+
+/// A change of the place, the entry, or bytes at the place.
+#[derive(Clone, Copy, Debug, PartialEq, Eq, Drop)]
+pub enum Operation {
+    Moves(u32),
+    Enters(u32),
+    PutsByte(u8),
+    PutsHalf(u16),
+    PutsWord(u32),
+    PutsZeros(u32),
+    Long(Ins),
+    /// Two instructions, one after the other.
+    Twice(Ins, Ins),
+    Compressed(Cins),
+}
