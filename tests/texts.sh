@@ -1,0 +1,43 @@
+#!/bin/sh
+# Runs the examples, and small programs whose whole text was worked out by hand, and compares all that they
+# write, and the status.
+top=$(cd "$(dirname "$0")/.." && pwd)
+command -v rt >/dev/null || { echo "texts: skipped, since there is no rt"; exit 0; }
+written=$(mktemp)
+trap 'rm -f "$written"' EXIT
+cd "$top" || exit 1
+
+# The status, the text, and the words after `run`.
+writes() {
+    status=$1
+    text=$2
+    shift 2
+    ./clic_tool run "$@" >"$written"
+    given=$?
+    if [ "$given" -ne "$status" ]; then
+        echo "texts: $text: status $given in place of $status" >&2
+        exit 1
+    fi
+    cmp "$written" "$text" || exit 1
+}
+
+# The status, the program, and the words after the names of its image and its scenario.
+row() {
+    status=$1
+    name=tests/rows/$2
+    shift 2
+    writes "$status" "$name.report" "$name.img" "$name.txt" "$@"
+}
+
+writes 0 examples/first.report examples/first.img examples/empty.txt 100
+writes 0 examples/echo.report examples/echo.img examples/echo.txt 1000
+writes 0 examples/blink.report examples/blink.img examples/blink.txt 1000 --trace
+row 0 division 100
+row 0 compressed 100 --trace
+row 0 output 100
+row 0 exception 100 --trace
+row 1 nothing 1 --trace
+row 1 interrupt 24 --trace
+row 9 vector 100
+row 0 ram 100
+echo "texts: each program writes what it is to write"
