@@ -1,5 +1,5 @@
 -- Where no fault was counted, a run is that of the files which the shelf holds.
-use Rattle.std.proofs.Common.{◌≡◌, ◌∙◌, ℕ, List, Option, Some, None, IfSome, true, refl, sym, ap, subst, inl, inr, ◌⊎◌, []}
+use Rattle.std.proofs.Common.{◌≡◌, List, Option, Some, None, IfSome, refl, sym, subst, inl, inr}
 use Rattle.std.specs.Io.KnownBytes.{Appends}
 use Rattle.board_outside.specs.Shelf.{File, ShelfView, file_at}
 use Rattle.board_outside.specs.Sink.{SinkView}

@@ -1,5 +1,5 @@
 -- What a command's status says of what was done.
-use Rattle.std.proofs.Common.{◌≡◌, ◌∙◌, ℕ, ◌<◌, ◌≤◌, List, [], true, false, Option, Some, None, Result, Ok, Err, refl, sym, ap, subst, arith, inl, inr, ◌⊎◌}
+use Rattle.std.proofs.Common.{◌≡◌, ◌∙◌, ℕ, ◌<◌, List, [], true, Option, Some, None, Result, Err, refl, sym, ap, subst, arith, inl, inr, ◌⊎◌}
 use Rattle.board_outside.specs.Counts.{Rose}
 use Rattle.board_outside.specs.Shelf.{ShelfView, KeepsCounts}
 use Rattle.board_outside.specs.Sink.{SinkView, Writes}
@@ -7,14 +7,13 @@ use Rattle.board_outside.specs.declared.shelf.ShelfFault.{ShelfFault}
 use Rattle.board_outside.specs.declared.shelf.ShelfFault.TheVariants.{Absent as absent, Failed as failed, Memory as memory}
 use Rattle.hart_memory.specs.Image.{ImageView}
 use Rattle.hart_board.specs.declared.event.Event.{Event}
-use Rattle.hart_board.specs.declared.run_end.RunEnd.{RunEnd}
 use Rattle.hart_board.specs.declared.run_end.RunEnd.TheVariants.{BudgetSpent as budget_spent, VectorFault as vector_fault}
-use Rattle.clic_tool.specs.Shipped.{shipped_meanings, shipped_board}
+use Rattle.clic_tool.specs.Shipped.{shipped_meanings}
 use Rattle.clic_tool.specs.Order.{Order}
 use Rattle.clic_tool.specs.Stages.{image_limit, image_stage, scenario_limit, scenario_stage}
-use Rattle.clic_tool.specs.Due.{Due, usage_due, memory_due, refusal_due, fault_due, run_due, run_made, status_of}
-use Rattle.clic_tool.specs.Answers.{Ends, Fetches, Passes, Stops, IsUngiven, IsRefused, PassesImage, PassesFiles, RunsWith, AfterImage, PassesOn, Reaches, Comes, DoesOrLacks, Answers, IsCalm}
-use Rattle.clic_tool.specs.Causes.{NoneRose, RanTo, AtFile, IsAbsentFile, IsFailedFile, IsAbsent, HasFailed, IsRefusedFile, IsRefusedScenario, IsRefusedRun}
+use Rattle.clic_tool.specs.Due.{Due, fault_due, run_due, run_made, status_of}
+use Rattle.clic_tool.specs.Answers.{Ends, Fetches, Stops, PassesImage, PassesFiles, AfterImage, Reaches, Comes, DoesOrLacks, Answers, IsCalm}
+use Rattle.clic_tool.specs.Causes.{NoneRose, RanTo, IsAbsentFile, IsFailedFile, IsAbsent, HasFailed, IsRefusedFile, IsRefusedRun}
 use Rattle.clic_tool.specs.declared.refusal.Refusal.{Refusal}
 use Rattle.clic_tool.specs.declared.status.Status.{Status}
 use Rattle.clic_tool.specs.declared.status.Status.TheVariants.{Done, BudgetSpent, Usage, Absent, ShelfFailed, Refused, SinkFailed, Memory, VectorFault}

@@ -1,14 +1,13 @@
 -- A run that halts, of files that are held and accepted, is written whole.
-use Rattle.std.proofs.Common.{◌≡◌, ◌∙◌, ℕ, ◌≤◌, List, [], Some, true, false, IsTrue, Ok, Err, length, refl, sym, ap, subst, arith, inl, inr, ◌⊎◌}
+use Rattle.std.proofs.Common.{◌≡◌, ◌∙◌, ℕ, List, [], true, false, IsTrue, refl, sym, ap, subst, arith, inl, inr}
 use Rattle.board_outside.specs.Shelf.{ShelfView, file_at}
 use Rattle.board_outside.specs.Sink.{SinkView, Writes}
 use Rattle.hart_memory.specs.Image.{ImageView}
 use Rattle.hart_board.specs.declared.event.Event.{Event}
-use Rattle.hart_board.specs.declared.run_end.RunEnd.{RunEnd}
 use Rattle.hart_board.specs.declared.run_end.RunEnd.TheVariants.{Halted}
 use Rattle.clic_tool.specs.Order.{Order}
 use Rattle.clic_tool.specs.Stages.{image_limit, image_stage, scenario_limit, scenario_stage}
-use Rattle.clic_tool.specs.Due.{Due, memory_due, status_of, run_due, run_made, files_due}
+use Rattle.clic_tool.specs.Due.{Due, memory_due, status_of, run_due, run_made}
 use Rattle.clic_tool.specs.Answers.{Ends, Stops, AfterImage, Reaches, RunsFiles, IsCalm, HasRoom, IsReady, Succeeds}
 use Rattle.clic_tool.specs.declared.refusal.Refusal.{Refusal}
 use Rattle.clic_tool.specs.declared.status.Status.{Status}

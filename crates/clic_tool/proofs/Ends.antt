@@ -1,5 +1,5 @@
 -- What was written, and how a command ends.
-use Rattle.std.proofs.Common.{◌≡◌, ◌∙◌, ℕ, List, Bool, true, false, Option, Some, None, IsTrue, Result, Ok, Err, refl, sym, ap, subst, inl, inr, if◌then◌else◌, ◌⊎◌}
+use Rattle.std.proofs.Common.{◌≡◌, ◌∙◌, ℕ, List, Bool, true, false, Option, Some, None, IsTrue, Result, Ok, Err, refl, ap, subst, inl, inr, if◌then◌else◌}
 use Rattle.board_outside.specs.Shelf.{ShelfView, KeepsCounts}
 use Rattle.board_outside.specs.Sink.{SinkView, Writes}
 use Rattle.board_outside.proofs.Writing.{writes_nothing}
@@ -11,7 +11,7 @@ use Rattle.hart_board.specs.declared.run_end.RunEnd.TheVariants.{Halted, BudgetS
 use Rattle.clic_tool.specs.Order.{Order}
 use Rattle.clic_tool.specs.Stages.{image_limit, image_stage, scenario_limit, scenario_stage}
 use Rattle.clic_tool.specs.Due.{Due, usage_due, refusal_due, run_due, status_of}
-use Rattle.clic_tool.specs.Answers.{Ends, EndsOrWants, Fetches, Passes, Stops, PassesImage, AfterImage, Reaches, Does, Lacks, DoesOrLacks, RunsFiles, Answers, Misuses}
+use Rattle.clic_tool.specs.Answers.{Ends, EndsOrWants, Fetches, Stops, AfterImage, Lacks, DoesOrLacks, RunsFiles, Answers, Misuses}
 use Rattle.clic_tool.specs.declared.refusal.Refusal.{Refusal}
 use Rattle.clic_tool.specs.declared.status.Status.{Status}
 use Rattle.clic_tool.specs.declared.status.Status.TheVariants.{SinkFailed, Memory}

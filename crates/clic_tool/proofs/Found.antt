@@ -1,5 +1,5 @@
 -- What clap's getters read.
-use Rattle.std.proofs.Common.{◌≡◌, ◌∙◌, ◌<◌, ◌^◌, ◌&&◌, ℕ, List, [], ◌∷◌, Bool, true, false, Option, Some, None, Result, Ok, Err, option_map, map, refl, sym, ap, ap₂, subst, arith, cond, codes, length}
+use Rattle.std.proofs.Common.{◌≡◌, ◌^◌, ◌&&◌, ℕ, List, [], ◌∷◌, Bool, true, false, Option, Some, None, Result, Ok, Err, option_map, map, refl, sym, ap, cond, codes, length}
 use Rattle.std.specs.Prelude.{unwrap_or, nat_lt, MatchResult}
 use Rattle.std.specs.Char.{digit_value}
 use Rattle.std.proofs.lemmas.Bool.{lt-ltb, ltb-true}
@@ -8,14 +8,12 @@ use Rattle.std.specs.List.{list_all}
 use Rattle.std.specs.Borrow.{Bor}
 use Rattle.std.specs.Str.{bytes_eq}
 use Rattle.std.proofs.lemmas.Slice.Eq.{bytes_eq-Decides}
-use Rattle.std.specs.Option.{option_map_or}
-use Rattle.std.specs.Str.Parse.{ParsesUnsigned, ParsesBool, IsNumeral, AllDigits, digits_value, without_leading_plus}
+use Rattle.std.specs.Str.Parse.{ParsesUnsigned, ParsesBool, AllDigits, digits_value, without_leading_plus}
 use Rattle.clap.specs.ValueTests.{is_numeral}
-use Rattle.clap.specs.Words.{App, Row, Text, ReadsOne, found_of, first_of, one_of, is_simple, matches_of, takes}
+use Rattle.clap.specs.Words.{Row, Text, ReadsOne, is_simple, matches_of, takes}
 use Rattle.clap.specs.Simple.{built}
 use Rattle.clap.specs.Takes.{default_passes}
 use Rattle.clap.specs.Faults.{has_free_rules, fault_of, is_simple_and_free}
-use Rattle.clap.proofs.OnLiterals.{clap_on_literals}
 use Rattle.clic_tool.specs.Order.{run_app, taken_order, order_in, bound_in, number_of, is_flag_on, Order}
 use Rattle.clic_tool.proofs.NoFault.{no_fault_takes}
 

@@ -1,7 +1,6 @@
 -- What the files that a shelf holds give, by what its fetches gave.
-use Rattle.std.proofs.Common.{◌≡◌, ◌∙◌, ℕ, ◌+◌, ◌<◌, ◌≤◌, List, true, false, Option, Some, None, Result, Ok, Err, take, length, length-take, nat_lt, option_map, refl, sym, ap, subst, arith, inl, inr, ◌⊎◌}
+use Rattle.std.proofs.Common.{◌≡◌, ◌∙◌, ℕ, ◌+◌, List, true, Option, Some, None, Result, Ok, Err, take, length, length-take, nat_lt, option_map, refl, sym, ap, arith, inl, inr, ◌⊎◌}
 use Rattle.std.proofs.lemmas.Bool.{cases_lt, lt-ltb}
-use Rattle.std.proofs.lemmas.Bool.Decides.{nat_tests}
 use Rattle.std.proofs.lemmas.List.{take_all}
 use Rattle.board_outside.specs.Counts.{Rose}
 use Rattle.board_outside.specs.Shelf.{File, ShelfView, file_at}
@@ -11,8 +10,8 @@ use Rattle.hart_memory.specs.Image.{ImageView}
 use Rattle.hart_board.specs.declared.event.Event.{Event}
 use Rattle.clic_tool.specs.Order.{Order}
 use Rattle.clic_tool.specs.Stages.{image_limit, image_stage, scenario_limit, scenario_stage}
-use Rattle.clic_tool.specs.Due.{Due, absent_due, memory_due, refusal_due, fault_due, run_due, staged, held, and_then, files_due}
-use Rattle.clic_tool.specs.Answers.{Fetches, Passes, Stops, PassesOn, AfterImage, Reaches, IsCalm}
+use Rattle.clic_tool.specs.Due.{Due, memory_due, fault_due, run_due, staged, held, and_then, files_due}
+use Rattle.clic_tool.specs.Answers.{Fetches, Passes, Stops, AfterImage, Reaches, IsCalm}
 use Rattle.clic_tool.specs.declared.refusal.Refusal.{Refusal}
 
 pub never_rose : {f f' : ℕ} → IsCalm f f' → Rose f f' → ⊥

@@ -1,5 +1,5 @@
 -- How a run ends, and what its status says.
-use Rattle.std.proofs.Common.{◌≡◌, ◌∙◌, ℕ, ◌+◌, zero, suc, List, Option, Some, None, refl, sym, subst}
+use Rattle.std.proofs.Common.{◌≡◌, ℕ, ◌+◌, zero, suc, List, Option, Some, None, refl}
 use Rattle.device_model.specs.Meanings.{Meanings}
 use Rattle.hart_board.specs.State.{State}
 use Rattle.hart_board.specs.Step.{Turn, step}

@@ -1,5 +1,5 @@
 -- The cause of each status.
-use Rattle.std.specs.Prelude.{◌≡◌, ℕ, ◌<◌, ◌⊎◌, true, List, Option, Some, None, Result, Ok, Err, IfSome}
+use Rattle.std.specs.Prelude.{◌≡◌, ℕ, ◌⊎◌, true, List, Option, Some, None, Result, Ok, Err, IfSome}
 use Rattle.board_outside.specs.Counts.{Rose}
 use Rattle.board_outside.specs.Shelf.{ShelfView, file_at, KeepsCounts}
 use Rattle.board_outside.specs.Sink.{SinkView, Writes}

@@ -1,9 +1,8 @@
 -- The text and the status that are due.
-use Rattle.std.specs.Prelude.{◌≡◌, ℕ, List, [], Option, Some, None, Result, Ok, Err}
+use Rattle.std.specs.Prelude.{ℕ, List, [], Option, Some, None, Result, Ok, Err}
 use Rattle.board_outside.specs.declared.shelf.ShelfFault.{ShelfFault}
 use Rattle.board_outside.specs.declared.shelf.ShelfFault.TheVariants.{Absent as absent, Failed as failed, Memory as memory}
 use Rattle.hart_memory.specs.Image.{ImageView}
-use Rattle.hart_board.specs.State.{State}
 use Rattle.hart_board.specs.Run.{Ran, run_of}
 use Rattle.hart_board.specs.Text.{run_text}
 use Rattle.hart_board.specs.declared.event.Event.{Event}

@@ -1,8 +1,7 @@
-use Rattle.std.proofs.Common.{◌≡◌, Some, None, inl, inr, refl, subst, Option}
-use Rattle.clic_tool.specs.Order.{Order, order_of}
+use Rattle.std.proofs.Common.{◌≡◌, Some, None, inr, refl}
+use Rattle.clic_tool.specs.Order.{order_of}
 use Rattle.clic_tool.specs.View.{view}
 use Rattle.clic_tool.specs.Lines.{usage_line}
-use Rattle.clic_tool.specs.Answers.{Answers}
 use Rattle.clic_tool.specs.declared.status.Status.TheVariants.{Usage}
 use Rattle.clic_tool.proofs.Ends.{ends_by, lacks, of_words, of_usage}
 use Rattle.clic_tool.proofs.command.answer.Goals as goal

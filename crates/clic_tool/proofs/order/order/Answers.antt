@@ -1,7 +1,7 @@
-use Rattle.std.proofs.Common.{◌≡◌, ◌∙◌, rules, refl, sym, ap, codes, Some, None, Option, Bool, unwrap_or, false, ℕ, List, []}
+use Rattle.std.proofs.Common.{◌≡◌, ◌∙◌, refl, ap, codes, Option, unwrap_or, ℕ, List, []}
 use Rattle.std.specs.Borrow.{Bor}
 use Rattle.std.specs.Str.Parse.{ParsesUnsigned, ExplainsUnsignedError, HasUnsignedDigitsIfOk}
-use Rattle.clap.specs.Words.{found_of, first_of, one_of, rows_of, Text}
+use Rattle.clap.specs.Words.{found_of, first_of, one_of, rows_of}
 use Rattle.clap.proofs.WalkLemmas.{first_value-rows, one_text-rows}
 use Rattle.clic_tool.specs.Order.{order_in, bound_in, is_flag_on}
 use Rattle.clic_tool.proofs.Found.{bound_read, flag_read, text_or}

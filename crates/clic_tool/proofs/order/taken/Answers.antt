@@ -1,8 +1,6 @@
-use Rattle.std.proofs.Common.{◌≡◌, ◌∙◌, rules, refl, sym, ap, ap₂, true, false, Bool, map, List, ℕ}
-use Rattle.clap.specs.Words.{app_of, found_of, rows_of, fault_of, is_simple, is_simple_and_free, matches_of, takes}
-use Rattle.clap.specs.Kinds.{Kinds}
-use Rattle.clic_tool.specs.Order.{run_app}
-use Rattle.clic_tool.proofs.Found.{map_same, run_is_simple, run_is_free, run_takes, order_taken, order_refused}
+use Rattle.std.proofs.Common.{◌∙◌, sym, ap, ap₂}
+use Rattle.clap.specs.Words.{found_of, rows_of, fault_of, is_simple, is_simple_and_free, matches_of, takes}
+use Rattle.clic_tool.proofs.Found.{map_same, run_is_simple, run_is_free, order_taken, order_refused}
 use denote.Enum.Bare.{same_false}
 use Rattle.clap.specs.contracts.error.kind.ErrorKind.{the_type}
 use Rattle.clic_tool.proofs.order.taken.Goals as goal

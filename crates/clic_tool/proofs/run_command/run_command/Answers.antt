@@ -1,9 +1,8 @@
-use Rattle.std.proofs.Common.{rules, ap, ap₂, refl, codes, ◌≡◌, ◌∙◌, Some}
-use Rattle.std.specs.Prelude.{pos}
-use Rattle.clap.specs.Words.{App, Rule, app_of, rule_of, new_app, with_rule}
+use Rattle.std.proofs.Common.{rules, ap, ap₂, codes, ◌≡◌, ◌∙◌, Some}
+use Rattle.clap.specs.Words.{rule_of, with_rule}
 use Rattle.clap.specs.declared.builder.value_parser.ValueParser.{ValueParser}
 use Rattle.clap.specs.declared.builder.value_parser.ValueParser.TheVariants as vp
-use Rattle.clic_tool.specs.Order.{run_app, text_rule, bound_rule, trace_rule}
+use Rattle.clic_tool.specs.Order.{text_rule, bound_rule, trace_rule}
 use Rattle.clic_tool.proofs.run_command.run_command.Goals as goal
 
 pub returns : goal.returns
