@@ -28,10 +28,15 @@ with_end reads = record reads { ends = counted reads.ends }
 abbrev pub system_view : ReadsState → ShelfView
 system_view reads = record { files = None; absences = reads.absences; faults = reads.faults; steady = false }
 
+-- nothing was read, and no end was met
+pub record ReadsNothing (before now : ReadsState) : Type 0 where
+  pub bytes : now.bytes ≡ before.bytes
+  pub ends : now.ends ≡ before.ends
+
 -- one read gave bytes, or none at the end, or it failed
 abbrev pub CountsRead : Result ℕ ShelfFault → ReadsState → ReadsState → Type 0
 CountsRead (Ok n) before now = now ≡ (if nat_eq n 0 then with_end before else with_bytes before n)
-CountsRead (Err fault) before now = CountsFault (system_view before) (system_view now)
+CountsRead (Err fault) before now = ReadsNothing before now × CountsFault (system_view before) (system_view now)
 
 -- after a file of n bytes, where there was room for most: fewer come only at the end
 abbrev pub after_file : ReadsState → ℕ → ℕ → ReadsState

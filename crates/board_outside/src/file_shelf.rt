@@ -1,5 +1,5 @@
 // The files of the system.
-ghost use Rattle.std.specs.Prelude.{◌≡◌, ◌+◌, ◌≤◌, vec_len, IfOk, IfSome, IsTrue};
+ghost use Rattle.std.specs.Prelude.{◌≡◌, ◌+◌, ◌≤◌, vec_len, IfOk, OnErr, IfSome, IsTrue};
 ghost use Rattle.board_outside.specs.Shelf.{file_at, Gives, CountsFetch, StaysSteady};
 ghost use Rattle.board_outside.specs.Reads.{no_reads, system_view, after_file};
 
@@ -64,6 +64,7 @@ impl<'a, R: Files> Shelf for FileShelf<'a, R> {
         ensures steady { IsTrue (system_view self.old).steady → StaysSteady (system_view self.old) (system_view self.new) }
         // A file has as many bytes as were read, and fewer than the limit allows only where its end was met.
         ensures given { IfOk result (λ v. self.new ≡ after_file self.old (vec_len v) (limit + 1)) }
+        ensures unfinished { OnErr result (self.new.ends ≡ self.old.ends) }
     {
         fetched(&mut self.reads, alloc, fs::open(self.rt, name), limit)
     }

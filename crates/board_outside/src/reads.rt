@@ -3,7 +3,7 @@ ghost use Rattle.std.specs.Prelude.{◌≡◌, ◌≢◌, ◌<◌, ◌≤◌, le
 ghost use Rattle.std.specs.Io.KnownBytes.{ReadConsumes};
 ghost use Rattle.std.specs.IoError.{error_kind};
 ghost use Rattle.board_outside.specs.Shelf.{CountsRefusal};
-ghost use Rattle.board_outside.specs.Reads.{no_reads, system_view, CountsRead};
+ghost use Rattle.board_outside.specs.Reads.{no_reads, system_view, ReadsNothing, CountsRead};
 
 use crate::shelf::ShelfFault;
 use std::io::{Error, ErrorKind, Read};
@@ -79,6 +79,7 @@ impl Reads {
     pub fn refuse(&mut self, error: &Error) -> ShelfFault
         ensures absent { error_kind error.now ≡ ErrorKind.NotFound → result ≡ ShelfFault.Absent }
         ensures failed { error_kind error.now ≢ ErrorKind.NotFound → result ≡ ShelfFault.Failed }
+        ensures kept { ReadsNothing self.old self.new }
         ensures counts { CountsRefusal result (system_view self.old) (system_view self.new) }
     {
         if error.kind() == ErrorKind::NotFound {

@@ -1,5 +1,5 @@
 // The loops over a real reader and a real writer.
-ghost use Rattle.std.specs.Prelude.{◌≡◌, ◌≢◌, ◌+◌, ◌≤◌, vec_len, take, is_ok, IfOk, IfErr, IfSome};
+ghost use Rattle.std.specs.Prelude.{◌≡◌, ◌≢◌, ◌+◌, ◌≤◌, vec_len, take, is_ok, IfOk, IfErr, OnErr, IfSome};
 ghost use Rattle.std.specs.IoError.{error_kind};
 ghost use Rattle.board_outside.specs.Shelf.{CountsFetch};
 ghost use Rattle.board_outside.specs.Reads.{system_view, after_file};
@@ -29,6 +29,7 @@ pub fn read_front<F: Read>(
     ensures found { result ≡ Err ShelfFault.Absent → ⊥ }
     ensures counts { CountsFetch result (system_view reads.old) (system_view reads.new) }
     ensures given { IfOk result (λ v. reads.new ≡ after_file reads.old (vec_len v) most) }
+    ensures unfinished { OnErr result (reads.new.ends ≡ reads.old.ends) }
 {
     let mut bytes = Vec::new(alloc);
     let mut chunk = [0u8; CHUNK];
@@ -62,6 +63,7 @@ pub fn fetched<F: Read + Drop>(
     ensures failed { IfErr opened (λ e. error_kind e ≢ ErrorKind.NotFound → result ≡ Err ShelfFault.Failed) }
     ensures counts { CountsFetch result (system_view reads.old) (system_view reads.new) }
     ensures given { IfOk result (λ v. reads.new ≡ after_file reads.old (vec_len v) (limit + 1)) }
+    ensures unfinished { OnErr result (reads.new.ends ≡ reads.old.ends) }
 {
     match opened {
         Ok(mut file) => read_front(reads, alloc, &mut file, limit as usize + 1),
