@@ -1,9 +1,4 @@
-pub mod Integers
-pub mod Names
-pub mod Items
-pub mod Chosen
 pub mod Entries
-pub mod Zeros
 pub mod Onward
 pub mod Adding
 pub mod Keeping

@@ -12,10 +12,11 @@ use Rattle.rv_assembler.specs.Placing.{total}
 use Rattle.rv_assembler.specs.Source.{cut_segments, moved}
 use Rattle.rv_assembler.specs.Relation.{HasBytes, behind}
 use Rattle.rv_assembler.specs.declared.stretch.Stretch.{Stretch}
-use Rattle.rv_assembler.specs.declared.extent.Extent.{Extent}
-use Rattle.rv_assembler.specs.declared.extent.Extent.TheVariants.{Jumps, Marks, Takes}
-use Rattle.rv_assembler.specs.declared.asm_why.AsmWhy.TheVariants.{BadOperands, OutsideMemory, Overlap, TooLarge}
-use Rattle.rv_assembler.proofs.Keeping.{cond_ok, ok_is, not_true, taken}
+use Rattle.asm_forms.specs.declared.extent.Extent.{Extent}
+use Rattle.asm_forms.specs.declared.extent.Extent.TheVariants.{Jumps, Marks, Takes}
+use Rattle.asm_forms.specs.declared.asm_why.AsmWhy.TheVariants.{BadOperands, OutsideMemory, Overlap, TooLarge}
+use Rattle.asm_forms.proofs.Fitting.{taken}
+use Rattle.rv_assembler.proofs.Keeping.{cond_ok, ok_is, not_true}
 
 -- ---- the place
 

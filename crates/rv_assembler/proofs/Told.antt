@@ -6,25 +6,26 @@ use Rattle.std.proofs.lemmas.Bool.Decides.{nat_tests}
 use lib.Pointwise.{pointwise}
 use Rattle.std.proofs.lemmas.List.Sums.{sum_by-cons}
 use Rattle.hart_memory.specs.Image.{SegmentView, byte_count}
-use Rattle.rv_assembler.specs.Operands.{Operands}
-use Rattle.rv_assembler.specs.Operations.{made, operation_fits, extent_of, bytes_of}
-use Rattle.rv_assembler.specs.Statements.{Task, Reading, reading}
+use Rattle.asm_forms.specs.Operands.{Operands}
+use Rattle.asm_forms.specs.Operations.{made, operation_fits, extent_of, bytes_of}
+use Rattle.asm_forms.specs.Statements.{Task, Reading, reading}
 use Rattle.rv_assembler.specs.Symbols.{Symbol, address_of, defined_by, with_label}
 use Rattle.rv_assembler.specs.Laying.{Laid, laid, shut, Ends}
 use Rattle.rv_assembler.specs.Placing.{total}
 use Rattle.rv_assembler.specs.Lines.{lines_of}
 use Rattle.rv_assembler.specs.Source.{Refusal, refuse, at_line, pass, Passed, nothing_passed, laid_by, first_read, first_line, Built, nothing_built, resolved, reached, moved, entry_by, with_operation, second_task, second_by, task_in, task_of, second_line, Program, cut_segments, of_lines, assembled}
 use Rattle.rv_assembler.specs.Relation.{IsLabelled, IsEntry, IsDone, extent_by, behind, AreLines, label_in, labels_in, length_by, length_of, NamesEntry, HaveEntry, IsSource}
-use Rattle.rv_assembler.specs.declared.kind.Kind.{Kind}
-use Rattle.rv_assembler.specs.declared.kind.Kind.TheVariants.{Org, Entry, Byte, Half, Zero, Short, Pair}
-use Rattle.rv_assembler.specs.declared.operation.Operation.{Operation}
+use Rattle.asm_forms.specs.declared.kind.Kind.{Kind}
+use Rattle.asm_forms.specs.declared.kind.Kind.TheVariants.{Org, Entry, Byte, Half, Zero, Short, Pair}
+use Rattle.asm_forms.specs.declared.operation.Operation.{Operation}
 use Rattle.rv_assembler.specs.declared.stretch.Stretch.{Stretch}
-use Rattle.rv_assembler.specs.declared.extent.Extent.{Extent}
-use Rattle.rv_assembler.specs.declared.extent.Extent.TheVariants.{Jumps, Marks, Takes}
-use Rattle.rv_assembler.specs.declared.asm_why.AsmWhy.{AsmWhy}
-use Rattle.rv_assembler.specs.declared.asm_why.AsmWhy.TheVariants.{BadOperands, OutOfReach, NoEntry, TooLarge}
+use Rattle.asm_forms.specs.declared.extent.Extent.{Extent}
+use Rattle.asm_forms.specs.declared.extent.Extent.TheVariants.{Jumps, Marks, Takes}
+use Rattle.asm_forms.specs.declared.asm_why.AsmWhy.{AsmWhy}
+use Rattle.asm_forms.specs.declared.asm_why.AsmWhy.TheVariants.{BadOperands, OutOfReach, NoEntry, TooLarge}
 use Rattle.rv_assembler.specs.declared.assembling.TheConstants.{MAX_SOURCE}
-use Rattle.rv_assembler.proofs.Keeping.{bind_ok, at_line_ok, ok_is, cond_ok, bytes_taken, taken, Keeps, line_keeps, passes_keep, can_be_cut, nothing_kept}
+use Rattle.asm_forms.proofs.Fitting.{taken, bytes_taken}
+use Rattle.rv_assembler.proofs.Keeping.{bind_ok, at_line_ok, ok_is, cond_ok, Keeps, line_keeps, passes_keep, can_be_cut, nothing_kept}
 use Rattle.rv_assembler.proofs.Located.{took, jumped, marked, laid_place, laid_ends, moved_behind, Becomes, at_the_end, becomes_before, line_bytes}
 
 -- ---- symbols

@@ -3,17 +3,17 @@ use Rattle.std.specs.Prelude.{◌≡◌, ℕ, ◌+◌, ◌-◌, ◌<◌, ◌≤�
 use Rattle.std.specs.declared.result.Result.{Result}
 use Rattle.std.specs.declared.result.Result.TheVariants.{Ok, Err}
 use Rattle.hart_memory.specs.Image.{SegmentView, byte_count}
-use Rattle.rv_assembler.specs.Operations.{made, operation_fits, extent_of, bytes_of}
-use Rattle.rv_assembler.specs.Statements.{Task, Reading, reading}
+use Rattle.asm_forms.specs.Operations.{made, operation_fits, extent_of, bytes_of}
+use Rattle.asm_forms.specs.Statements.{Task, Reading, reading}
 use Rattle.rv_assembler.specs.Symbols.{Symbol, address_of}
 use Rattle.rv_assembler.specs.Lines.{lines_of}
 use Rattle.rv_assembler.specs.Source.{resolved, task_of, Program}
-use Rattle.rv_assembler.specs.declared.asm_why.AsmWhy.{AsmWhy}
-use Rattle.rv_assembler.specs.declared.kind.Kind.TheVariants.{Entry}
-use Rattle.rv_assembler.specs.declared.operation.Operation.{Operation}
-use Rattle.rv_assembler.specs.declared.operation.Operation.TheVariants.{Enters}
-use Rattle.rv_assembler.specs.declared.extent.Extent.{Extent}
-use Rattle.rv_assembler.specs.declared.extent.Extent.TheVariants.{Jumps, Marks, Takes}
+use Rattle.asm_forms.specs.declared.asm_why.AsmWhy.{AsmWhy}
+use Rattle.asm_forms.specs.declared.kind.Kind.TheVariants.{Entry}
+use Rattle.asm_forms.specs.declared.operation.Operation.{Operation}
+use Rattle.asm_forms.specs.declared.operation.Operation.TheVariants.{Enters}
+use Rattle.asm_forms.specs.declared.extent.Extent.{Extent}
+use Rattle.asm_forms.specs.declared.extent.Extent.TheVariants.{Jumps, Marks, Takes}
 
 -- a segment has the byte v at the address a
 pub record HasByte (segments : List SegmentView) (a v : ℕ) : Type 0 where

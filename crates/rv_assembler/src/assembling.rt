@@ -1,12 +1,10 @@
 // From a source to an image.
 ghost use Rattle.std.specs.Prelude.{◌≡◌, ◌≤◌, ◌+◌, ◌^◌, ◌<◌, length, OnOk};
 ghost use Rattle.rv_assembler.specs.Lines.{lines_of, without_return};
-ghost use Rattle.rv_assembler.specs.Source.{at_line, first_line, second_line, pass, assembled, nothing_passed, nothing_built, image_of};
+ghost use Rattle.rv_assembler.specs.Source.{at_line, first_line, second_line, pass, assembled};
 ghost use Rattle.rv_assembler.specs.Answers.{BecomesAt, Gives};
-ghost use Rattle.rv_assembler.specs.Placing.{CanBeCut};
 
 use crate::asm_error::AsmError;
-use crate::asm_why::AsmWhy;
 use crate::assembled::Assembled;
 use crate::building::Building;
 use crate::cutting::image_of;
@@ -15,6 +13,7 @@ use crate::lines::{cut_line, without_return};
 use crate::passing::pass_line;
 use crate::stop::Stop;
 use crate::symbols::Symbols;
+use asm_forms::AsmWhy;
 use std::alloc::Global;
 
 /// The greatest length of a source.
