@@ -7,9 +7,9 @@ use Rattle.asm_text.specs.Words.{Word, NameWord, NumberWord, MarkWord}
 use Rattle.asm_text.specs.Lexing.{lexed}
 use Rattle.asm_text.specs.declared.lex_fault.LexFault.{LexFault}
 use Rattle.asm_forms.specs.Operands.{Operands}
-use Rattle.asm_forms.specs.Operations.{made, operation_fits, extent_of, bytes_of, first_value}
+use Rattle.asm_forms.specs.Operations.{made, operation_fits, extent_of, taken, bytes_of, first_value}
 use Rattle.asm_forms.specs.Forms.{Row, forms}
-use Rattle.asm_forms.specs.Statements.{Task, task_by, read_form, task_or, chosen, task_named, some_task, statement_of, Reading, reading, reading_of, reading_by}
+use Rattle.asm_forms.specs.Statements.{Task, Fits, task_by, read_form, task_or, chosen, task_named, some_task, statement_of, Reading, reading, reading_of, reading_by}
 use Rattle.asm_forms.specs.declared.kind.Kind.{Kind}
 use Rattle.asm_forms.specs.declared.kind.Kind.TheVariants.{Org, Entry, Byte, Half, Zero, Short, Pair}
 use Rattle.asm_forms.specs.declared.extent.Extent.{Extent}
@@ -26,9 +26,6 @@ cond_some true x y e = (refl, cc)
 cond_some false x y e = cc
 
 -- ---- what is read fits
-
-abbrev pub Fits : Task → Type 0
-Fits k = operation_fits (made k.kind k.operands (first_value k.operands.number)) ≡ true
 
 task_by_fits : (kind : Kind) (o : Option Operands) (k : Task) → task_by kind o ≡ Some k → Fits k
 task_by_fits kind None k e = cc
@@ -73,11 +70,6 @@ unfolding reading
 reading_fits line r k e s = reading_by_fits (lexed line).fault _ r k e s
 
 -- ---- how many bytes
-
-abbrev pub taken : Extent → ℕ
-taken (Jumps p) = 0
-taken Marks = 0
-taken (Takes n) = n
 
 abbrev pub Positive : Extent → Type 0
 Positive (Jumps p) = Unit {0}

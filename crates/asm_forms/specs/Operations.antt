@@ -72,6 +72,12 @@ extent_of (Short row) a = Takes 2
 extent_of Pair a = Takes 8
 extent_of _ a = Takes 4
 
+-- how many bytes that is
+abbrev pub taken : Extent → ℕ
+taken (Jumps p) = 0
+taken Marks = 0
+taken (Takes n) = n
+
 -- the bytes that it puts, the lowest first
 unfoldable pub bytes_of : Operation → List ℕ
 bytes_of (Moves p) = []

@@ -1,5 +1,5 @@
 -- What a line says.
-use Rattle.std.specs.Prelude.{ℕ, cond, List, [], ◌∷◌, drop, Option, Some, None}
+use Rattle.std.specs.Prelude.{◌≡◌, ℕ, true, cond, List, [], ◌∷◌, drop, Option, Some, None}
 use Rattle.std.specs.declared.result.Result.{Result}
 use Rattle.std.specs.declared.result.Result.TheVariants.{Ok, Err}
 use Rattle.asm_text.specs.Names.{is_same_text}
@@ -19,6 +19,10 @@ use Rattle.asm_forms.specs.declared.asm_why.AsmWhy.TheVariants.{Lex, UnknownMnem
 pub record Task : Type 0 where
   pub kind : Kind
   pub operands : Operands
+
+-- each number that is known before the labels are fits its field
+abbrev pub Fits : Task → Type 0
+Fits k = operation_fits (made k.kind k.operands (first_value k.operands.number)) ≡ true
 
 abbrev pub task_by : Kind → Option Operands → Option Task
 task_by kind None = None

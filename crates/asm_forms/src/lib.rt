@@ -10,6 +10,7 @@ mod form;
 mod forms;
 mod item;
 mod kind;
+pub mod laws;
 mod making;
 mod number;
 mod operands;
@@ -19,6 +20,8 @@ mod reading;
 mod sets;
 mod statements;
 mod task;
+#[cfg(test)]
+mod tests;
 
 pub use asm_why::AsmWhy;
 pub use bytes::push_operation;
