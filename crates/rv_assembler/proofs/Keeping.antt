@@ -4,8 +4,8 @@ use Rattle.std.specs.Prelude.{not}
 use Rattle.std.proofs.lemmas.List.{append-nil}
 use Rattle.std.proofs.lemmas.Bool.Decides.{nat_tests}
 use Rattle.hart_memory.specs.Place.{holds}
-use Rattle.asm_forms.specs.Operations.{made, operation_fits, extent_of, bytes_of}
-use Rattle.asm_forms.specs.Statements.{Task, Reading, reading}
+use Rattle.asm_forms.specs.Operations.{made, operation_fits, extent_of, taken, bytes_of}
+use Rattle.asm_forms.specs.Statements.{Task, Fits, Reading, reading}
 use Rattle.rv_assembler.specs.Symbols.{Symbol, with_label}
 use Rattle.rv_assembler.specs.Laying.{Laid, nothing_laid, laid, shut, is_full, grown, overlaps}
 use Rattle.rv_assembler.specs.Placing.{Follows, AllFollow, total, CanBeCut}
@@ -16,7 +16,7 @@ use Rattle.asm_forms.specs.declared.extent.Extent.{Extent}
 use Rattle.asm_forms.specs.declared.extent.Extent.TheVariants.{Jumps, Marks, Takes}
 use Rattle.asm_forms.specs.declared.asm_why.AsmWhy.{AsmWhy}
 use Rattle.asm_forms.specs.declared.asm_why.AsmWhy.TheVariants.{BadOperands, OutsideMemory, Overlap, TooLarge, OutOfReach}
-use Rattle.asm_forms.proofs.Fitting.{Fits, reading_fits, taken, Positive, positive, bytes_taken}
+use Rattle.asm_forms.proofs.Fitting.{reading_fits, Positive, positive, bytes_taken}
 
 -- ---- results
 

@@ -3,4 +3,7 @@ pub mod Onward
 pub mod Adding
 pub mod Keeping
 pub mod Located
+pub mod Shapes
 pub mod Told
+pub mod OneChoice
+pub mod Made
