@@ -273,6 +273,9 @@ grows_some : (g : Option Stretch) (c : List Stretch) → Grows g c → HasSome g
 grows_some None c h = tt
 grows_some (Some s) c h = h.1.some
 
+shape_before : (l : List ℕ) (ls : List (List ℕ)) (k : Option Task) (s after : Laid) (all : List Stretch) → k ≡ task_of (reading l) → laid_by k s ≡ Ok after → HasSome s.growing → expected after (extents ls) ≡ all → expected s (extents (l ∷ ls)) ≡ all
+shape_before l ls k s after all is lays some rest = ap (λ x. expected s (extent_by x ∷ extents ls)) (sym is) ∙ line_shape k s after (extents ls) lays some ∙ rest
+
 nothing_left : (t : Passed) (c : Built) → HasSome t.laying.growing → Told c.entry (all_of t) c.bytes t.symbols t.laying.entered t c []
 nothing_left t c h = record { lines = tt; becomes = at_the_end t.laying.growing t.laying.closed; more = []; bytes = sym (append-nil c.bytes); later = []; defines = sym (append-nil t.symbols); names = refl; entry = λ g. refl; once = λ o. o; counts = (let e : count t.laying.entered + 0 ≡ count t.laying.entered = omega arith in e); shape = shape_at_end t.laying.growing t.laying.closed t.laying.place h }
 
@@ -319,10 +322,7 @@ tell (l ∷ ls) n m s t b c e f h =
           let after : count p.0.laying.entered + entries ls ≡ count t.laying.entered = rest.counts in
           omega arith
           );
-      shape =
-          ap (λ k. expected s.laying (extent_by k ∷ extents ls)) (sym (first_task l x.read x.task x.reads x.asks))
-          ∙ line_shape x.task s.laying p.0.laying (extents ls) x.lays (grows_some s.laying.growing s.laying.closed h.kept.grows)
-          ∙ rest.shape;
+      shape = shape_before l ls x.task s.laying p.0.laying (all_of t) (first_task l x.read x.task x.reads x.asks) x.lays (grows_some s.laying.growing s.laying.closed h.kept.grows) rest.shape;
     }
 
 -- ---- the program
