@@ -71,7 +71,7 @@ pub not_true : (b : Bool) → not b ≡ false → b ≡ true
 not_true true e = refl
 not_true false e = cc
 
-size_grown : (g : Option Stretch) (place n : ℕ) → 0 < n → 0 < (grown g place n).size
+pub size_grown : (g : Option Stretch) (place n : ℕ) → 0 < n → 0 < (grown g place n).size
 size_grown None place n h = h
 size_grown (Some s) place n h = omega arith
 

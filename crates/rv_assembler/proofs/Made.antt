@@ -25,10 +25,11 @@ use Rattle.rv_assembler.specs.Relation.{IsLabelled, IsDone, extent_by, AreLines,
 use Rattle.rv_assembler.specs.declared.stretch.Stretch.{Stretch}
 use Rattle.rv_assembler.specs.declared.assembling.TheConstants.{MAX_SOURCE}
 use Rattle.rv_assembler.proofs.Adding.{sized, sized_more}
+use Rattle.rv_assembler.proofs.Keeping.{size_grown}
 use Rattle.rv_assembler.proofs.Shapes.{HasSome, expected, first_filled, take_shape, line_shape, line_some, count, line_counted}
 use Rattle.rv_assembler.proofs.Located.{in_by}
 use Rattle.rv_assembler.proofs.Told.{same_text, AreOnce, place_behind, ends_behind, same_behind, source_told}
-use Rattle.rv_assembler.proofs.OneChoice.{line_task, one_choice}
+use Rattle.rv_assembler.proofs.OneChoice.{some_is, cons_is, line_task, one_choice}
 
 -- ---- results
 
@@ -99,12 +100,6 @@ record Labelled (symbols ss : List Symbol) (label : Option (List ℕ)) (place : 
   defines : symbols ≡ after ++ later
   names : map (λ (s : Symbol). s.name) later ≡ rest
 
-cons_parts : {A : Type 0} (x y : A) (xs ys : List A) → x ∷ xs ≡ y ∷ ys → (x ≡ y) × (xs ≡ ys)
-cons_parts x y xs ys e = (cc, cc)
-
-some_is : {A : Type 0} (x y : A) → ◌≡◌ {A = Option A} (Some x) (Some y) → x ≡ y
-some_is x y e = cc
-
 label_at : (symbols ss : List Symbol) (x : Symbol) (xs : List Symbol) (t : List ℕ) (place : ℕ) (rest : List (List ℕ)) → AreOnce symbols → symbols ≡ ss ++ x ∷ xs → x.name ≡ t → map (λ (s : Symbol). s.name) xs ≡ rest → address_of symbols t ≡ Some place
     → Labelled symbols ss (Some t) place rest
 label_at symbols ss x xs t place rest once is named names here =
@@ -125,7 +120,7 @@ label_step : (label : Option (List ℕ)) (symbols ss later : List Symbol) (place
 label_step None symbols ss later place rest once is names here = record { after = ss; later = later; passes = refl; defines = is; names = names }
 label_step (Some t) symbols ss [] place rest once is names here = cc
 label_step (Some t) symbols ss (x ∷ xs) place rest once is names here =
-    let parts = cons_parts x.name t (map (λ (s : Symbol). s.name) xs) rest names in
+    let parts = cons_is x.name t (map (λ (s : Symbol). s.name) xs) rest names in
     label_at symbols ss x xs t place rest once is parts.0 parts.1 here
 
 -- ---- segments
@@ -182,10 +177,6 @@ not_full : (g : Option Stretch) (c : List Stretch) → length c < 64 → is_full
 not_full None c h = grind (arith, nat_tests)
 not_full (Some s) c h = refl
 
-grown_size : (g : Option Stretch) (p n : ℕ) → 0 < n → 0 < (grown g p n).size
-grown_size None p n h = h
-grown_size (Some s) p n h = omega arith
-
 not_false : (b : Bool) → b ≡ true → not b ≡ false
 not_false true e = refl
 not_false false e = cc
@@ -194,7 +185,7 @@ takes : (n : ℕ) (l : Laid) (es : List Extent) (all : List Stretch) → 0 < n �
 unfolding laid
 takes n l es all some is follow few =
     let t = grown l.growing l.place n in
-    let f = first t.base t.size es (grown_size l.growing l.place n some) in
+    let f = first t.base t.size es (size_grown l.growing l.place n some) in
     let whole : l.closed ++ f.stretch ∷ f.rest ≡ all = ap (λ (xs : List Stretch). l.closed ++ xs) (sym f.is) ∙ sym (take_shape l.growing l.closed l.place n es) ∙ is in
     let u : Follows l.closed f.stretch = follows_at [] l.closed f.rest f.stretch (subst (λ (xs : List Stretch). AllFollow [] xs) (sym whole) follow) in
     let room : length l.closed < 64 = (let e = ap length whole in omega (arith, few, e, length-append l.closed (f.stretch ∷ f.rest))) in

@@ -21,6 +21,14 @@ use Rattle.rv_assembler.specs.Relation.{HasByte, HasBytes, IsEntry, IsDone, IsLi
 use Rattle.rv_assembler.specs.declared.stretch.Stretch.{Stretch}
 use Rattle.rv_assembler.proofs.Keeping.{ok_is}
 
+-- ---- parts of what is the same
+
+pub some_is : {A : Type 0} (x y : A) → ◌≡◌ {A = Option A} (Some x) (Some y) → x ≡ y
+some_is x y e = cc
+
+pub cons_is : {A : Type 0} (x y : A) (xs ys : List A) → x ∷ xs ≡ y ∷ ys → (x ≡ y) × (xs ≡ ys)
+cons_is x y xs ys e = (cc, cc)
+
 -- ---- one line
 
 pub line_task : (p : Program) (place : ℕ) (line : List ℕ) (h : IsLine p place line) → h.task ≡ task_of (reading line)
@@ -125,9 +133,6 @@ filled_covered p q (s ∷ ss) h = by_test (nat_lt 0 s.size) s (filled ss) h.0 (f
 covered_at : (p q : Program) (ps : List SegmentView) (i : ℕ) (s : SegmentView) → AllCovered p q (map stretch_of ps) → slice_get ps i ≡ Some s → Covered p q s.address (length s.content)
 covered_at p q [] i s h e = cc
 covered_at p q (x ∷ xs) zero s h e = subst (λ (y : SegmentView). Covered p q y.address (length y.content)) (some_is x s e) h.0
-  where
-    some_is : {A : Type 0} (x y : A) → ◌≡◌ {A = Option A} (Some x) (Some y) → x ≡ y
-    some_is x y e = cc
 covered_at p q (x ∷ xs) (suc i) s h e = covered_at p q xs i s h.1 e
 
 -- ---- each byte is one segment's
@@ -145,9 +150,6 @@ not_both ss i j a s t h lt e f sl sh tl th =
 one_segment : (ss : List SegmentView) (i j a : ℕ) (s t : SegmentView) → AllPairs AreApart ss → slice_get ss i ≡ Some s → slice_get ss j ≡ Some t → s.address ≤ a → a < s.address + length s.content → t.address ≤ a → a < t.address + length t.content → t ≡ s
 one_segment ss i j a s t h e f sl sh tl th = by_order (below_or i j) (below_or j i)
   where
-    some_is : {A : Type 0} (x y : A) → ◌≡◌ {A = Option A} (Some x) (Some y) → x ≡ y
-    some_is x y e = cc
-
     by_order : (i < j) ⊎ (j ≤ i) → (j < i) ⊎ (i ≤ j) → t ≡ s
     by_order (inl lt) _ = absurd (not_both ss i j a s t h lt e f sl sh tl th)
     by_order (inr le) (inl lt) = absurd (not_both ss j i a t s h lt f e tl th sl sh)
@@ -175,9 +177,6 @@ same_content p q i s t h g e f same c =
 
 segment_is : (s t : SegmentView) → s.address ≡ t.address → s.content ≡ t.content → s ≡ t
 segment_is s t e f = ap (λ a. record { address = a; content = s.content }) e ∙ ap (λ (c : List ℕ). record { address = t.address; content = c }) f
-
-cons_is : {A : Type 0} (x y : A) (xs ys : List A) → x ∷ xs ≡ y ∷ ys → (x ≡ y) × (xs ≡ ys)
-cons_is x y xs ys e = (cc, cc)
 
 same_segments : (ps qs : List SegmentView) → map stretch_of ps ≡ map stretch_of qs → ((i : ℕ) (s t : SegmentView) → slice_get ps i ≡ Some s → slice_get qs i ≡ Some t → stretch_of s ≡ stretch_of t → s.content ≡ t.content) → ps ≡ qs
 same_segments [] [] e f = refl

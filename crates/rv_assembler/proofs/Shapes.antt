@@ -15,7 +15,7 @@ use Rattle.rv_assembler.specs.Laying.{Laid, laid, shut, grown}
 use Rattle.rv_assembler.specs.Source.{laid_by}
 use Rattle.rv_assembler.specs.Relation.{extent_by, entry_kind, entry_in, stretches, filled_by, filled}
 use Rattle.rv_assembler.specs.declared.stretch.Stretch.{Stretch}
-use Rattle.rv_assembler.proofs.Keeping.{ok_is, cond_ok}
+use Rattle.rv_assembler.proofs.Keeping.{ok_is, cond_ok, size_grown}
 use Rattle.rv_assembler.proofs.Located.{took, jumped, marked}
 
 -- the segment that grows, or none yet at the place
@@ -56,14 +56,10 @@ pub line_shape : (k : Option Task) (l after : Laid) (es : List Extent) → laid_
 line_shape None l after es e h = ap (λ (x : Laid). expected x es) (ok_is l after e)
 line_shape (Some k) l after es e h = laid_shape (extent_of k.kind k.operands.amount) l after es e h
 
-grown_some : (g : Option Stretch) (p n : ℕ) → 0 < n → 0 < (grown g p n).size
-grown_some None p n h = h
-grown_some (Some s) p n h = omega arith
-
 laid_some : (e : Extent) (l after : Laid) → laid e l ≡ Ok after → Positive e → HasSome l.growing → HasSome after.growing
 laid_some (Jumps p) l after e f h = subst (λ (x : Laid). HasSome x.growing) (jumped p l after e) tt
 laid_some Marks l after e f h = subst (λ (x : Laid). HasSome x.growing) (marked l after e) h
-laid_some (Takes n) l after e f h = subst (λ (x : Laid). HasSome x.growing) (took n l after e).is (grown_some l.growing l.place n f)
+laid_some (Takes n) l after e f h = subst (λ (x : Laid). HasSome x.growing) (took n l after e).is (size_grown l.growing l.place n f)
 
 pub line_some : (k : Option Task) (l after : Laid) → laid_by k l ≡ Ok after → ((x : Task) → k ≡ Some x → Positive (extent_of x.kind x.operands.amount)) → HasSome l.growing → HasSome after.growing
 line_some None l after e f h = subst (λ (x : Laid). HasSome x.growing) (ok_is l after e) h
