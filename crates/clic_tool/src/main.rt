@@ -1,12 +1,18 @@
-// The command of the board: `clic_tool run IMAGE SCENARIO BOUND`.
+// The commands: `clic_tool run IMAGE SCENARIO BOUND` and `clic_tool asm SOURCE`.
 #![tactic(auto)]
 
+mod assemble_command;
+mod assemble_order;
+mod assembling;
+#[cfg(test)]
+mod assembling_tests;
 #[cfg(test)]
 mod board_tests;
 mod command;
 #[cfg(test)]
 mod interrupt_tests;
 mod order;
+mod order_reading;
 #[cfg(test)]
 mod order_tests;
 #[cfg(test)]
@@ -22,7 +28,6 @@ mod running;
 #[cfg(test)]
 mod sink_tests;
 mod stages;
-mod status;
 #[cfg(test)]
 mod tests;
 mod writing;
