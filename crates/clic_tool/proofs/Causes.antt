@@ -12,10 +12,10 @@ use Rattle.tool_frame.specs.declared.status.Status.{Status}
 use Rattle.tool_frame.specs.declared.status.Status.TheVariants.{Done, BudgetSpent, Usage, SinkFailed, Memory, VectorFault}
 use Rattle.tool_frame.proofs.Ends.{misuses}
 use Rattle.tool_frame.proofs.Causes.{is_end, settled, passed_on, no_usage}
-use Rattle.clic_tool.specs.Order.{RunWords, AssembleWords, Order, Runs, Assembles}
+use Rattle.clic_tool.specs.Order.{RunWords, AssembleWords, DisassembleWords, Order, Runs, Assembles, Disassembles}
 use Rattle.clic_tool.specs.Lines.{refusal_line}
 use Rattle.clic_tool.specs.Stages.{image_limit, image_stage, scenario_limit, scenario_stage, source_limit, source_stage}
-use Rattle.clic_tool.specs.Due.{run_due, run_made, status_of, plan_of, run_plan, scenario_plan, assemble_plan, program_due}
+use Rattle.clic_tool.specs.Due.{run_due, run_made, status_of, plan_of, run_plan, scenario_plan, assemble_plan, program_due, disassemble_plan, listing_due}
 use Rattle.clic_tool.specs.Causes.{PassesFiles, RanTo}
 use Rattle.clic_tool.proofs.Plans.{run_status, plan_no_usage}
 use Rattle.clic_tool.proofs.RunEnds.{is_budget_spent, is_vector_fault}
@@ -54,10 +54,17 @@ assembled_done words shelf shelf' due s reached e h =
     let passed = passed_on refusal_line words.source_name source_limit source_stage (λ program. Makes (program_due words program)) shelf shelf' due reached (subst is_end (sym e) h) in
     sym e ∙ ap (λ (d : Due). d.status) passed.rest.1
 
+-- and so is a disassembly
+listed_done : (words : DisassembleWords) (shelf shelf' : ShelfView) (due : Due) (s : Status) → Reaches (disassemble_plan words) shelf shelf' due → due.status ≡ s → is_end s → s ≡ Done
+listed_done words shelf shelf' due s reached e h =
+    let passed = passed_on refusal_line words.image_name image_limit image_stage (λ image. Makes (listing_due image)) shelf shelf' due reached (subst is_end (sym e) h) in
+    sym e ∙ ap (λ (d : Due). d.status) passed.rest.1
+
 order_ran : (order : Option Order) (shelf shelf' : ShelfView) (due : Due) (s : Status) → Reaches (plan_of order) shelf shelf' due → due.status ≡ s → is_end s → (s ≡ Done → ⊥) → (s ≡ Usage → ⊥) → RanSo order shelf shelf' s
 order_ran None shelf shelf' due s reached e h no_done no_use = absurd (no_use (sym e ∙ ap (λ (d : Due). d.status) reached.1))
 order_ran (Some (Runs run)) shelf shelf' due s reached e h no_done no_use = run_ran run shelf shelf' due s reached e h
 order_ran (Some (Assembles words)) shelf shelf' due s reached e h no_done no_use = absurd (no_done (assembled_done words shelf shelf' due s reached e h))
+order_ran (Some (Disassembles words)) shelf shelf' due s reached e h no_done no_use = absurd (no_done (listed_done words shelf shelf' due s reached e h))
 
 pub budget_cause : (order : Option Order) (status : Status) (shelf shelf' : ShelfView) (sink sink' : SinkView) → Follows status (plan_of order) shelf shelf' sink sink' → status ≡ BudgetSpent → RanTo (λ end. end ≡ budget_spent) order shelf shelf'
 budget_cause order status shelf shelf' sink sink' follows e =

@@ -10,10 +10,10 @@ use Rattle.tool_frame.specs.declared.status.Status.TheVariants.{Usage}
 use Rattle.tool_frame.proofs.Held.{IsByFronts}
 use Rattle.tool_frame.proofs.Causes.{is_end, AllEnd, NoUsage, BeginsWell}
 use Rattle.clic_tool.specs.Shipped.{shipped_meanings}
-use Rattle.clic_tool.specs.Order.{RunWords, AssembleWords, Order, Runs, Assembles}
+use Rattle.clic_tool.specs.Order.{RunWords, AssembleWords, Order, Runs, Assembles, Disassembles}
 use Rattle.clic_tool.specs.Lines.{refusal_line}
 use Rattle.clic_tool.specs.Stages.{image_stage, scenario_stage, source_stage}
-use Rattle.clic_tool.specs.Due.{run_due, run_made, status_of, plan_of, scenario_plan, program_due}
+use Rattle.clic_tool.specs.Due.{run_due, run_made, status_of, plan_of, scenario_plan, program_due, listing_due}
 use Rattle.clic_tool.specs.declared.refusal.Refusal.{Refusal}
 use Rattle.clic_tool.proofs.Fronts.{same_image, same_scenario, same_source}
 use Rattle.clic_tool.proofs.RunEnds.{never_sink_failed, end_is_end, end_is_no_usage}
@@ -38,6 +38,8 @@ plan_fronts (Some (Runs run)) =
     (front_on refusal_line image_stage (scenario_plan run) 262145 same_image, λ bytes. fronts_on refusal_line (image_stage bytes) (scenario_plan run) (scenario_fronts run))
 plan_fronts (Some (Assembles words)) =
     (front_on refusal_line source_stage (λ program. Makes (program_due words program)) 2097153 same_source, λ bytes. fronts_on refusal_line (source_stage bytes) (λ program. Makes (program_due words program)) (λ program. tt))
+plan_fronts (Some (Disassembles words)) =
+    (front_on refusal_line image_stage (λ image. Makes (listing_due image)) 262145 same_image, λ bytes. fronts_on refusal_line (image_stage bytes) (λ image. Makes (listing_due image)) (λ image. tt))
 
 -- ---- statuses
 
@@ -57,6 +59,7 @@ pub plan_ends : (order : Option Order) → AllEnd (plan_of order)
 plan_ends None = tt
 plan_ends (Some (Runs run)) = λ bytes. ends_on refusal_line (image_stage bytes) (scenario_plan run) (λ image. λ later. ends_on refusal_line (scenario_stage later) (λ events. Makes (run_due run image events)) (λ events. run_ends run image events))
 plan_ends (Some (Assembles words)) = λ bytes. ends_on refusal_line (source_stage bytes) (λ program. Makes (program_due words program)) (λ program. tt)
+plan_ends (Some (Disassembles words)) = λ bytes. ends_on refusal_line (image_stage bytes) (λ image. Makes (listing_due image)) (λ image. tt)
 
 run_no_usage : (run : RunWords) (image : ImageView) (events : List Event) → (run_due run image events).status ≡ Usage → ⊥
 run_no_usage run image events e = end_is_no_usage (run_made image events run.bound_is).end (sym (run_status run image events) ∙ e)
@@ -68,8 +71,10 @@ no_usage_on line (Err e) next all = tt
 pub plan_no_usage : (order : Order) → NoUsage (plan_of (Some order))
 plan_no_usage (Runs run) = λ bytes. no_usage_on refusal_line (image_stage bytes) (scenario_plan run) (λ image. λ later. no_usage_on refusal_line (scenario_stage later) (λ events. Makes (run_due run image events)) (λ events. run_no_usage run image events))
 plan_no_usage (Assembles words) = λ bytes. no_usage_on refusal_line (source_stage bytes) (λ program. Makes (program_due words program)) (λ program. λ c. cc)
+plan_no_usage (Disassembles words) = λ bytes. no_usage_on refusal_line (image_stage bytes) (λ image. Makes (listing_due image)) (λ image. λ c. cc)
 
 pub plan_begins : (order : Option Order) → BeginsWell (plan_of order)
 plan_begins None = tt
 plan_begins (Some (Runs run)) = tt
 plan_begins (Some (Assembles words)) = tt
+plan_begins (Some (Disassembles words)) = tt

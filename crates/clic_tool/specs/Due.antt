@@ -11,12 +11,13 @@ use Rattle.board_inputs.specs.ImageFile.{image_text}
 use Rattle.board_inputs.specs.ImageLoading.{loaded}
 use Rattle.rv_assembler.specs.Symbols.{Symbol}
 use Rattle.rv_assembler.specs.Source.{Program}
+use Rattle.rv_disasm.specs.Listing.{image_text as image_source}
 use Rattle.tool_frame.specs.Due.{Due, usage_due}
 use Rattle.tool_frame.specs.Plan.{Plan, Makes, Asks, go_on}
 use Rattle.tool_frame.specs.declared.status.Status.{Status}
 use Rattle.tool_frame.specs.declared.status.Status.TheVariants.{Done, BudgetSpent, SinkFailed, VectorFault}
 use Rattle.clic_tool.specs.Shipped.{shipped_meanings, shipped_board}
-use Rattle.clic_tool.specs.Order.{RunWords, AssembleWords, Order, Runs, Assembles}
+use Rattle.clic_tool.specs.Order.{RunWords, AssembleWords, DisassembleWords, Order, Runs, Assembles, Disassembles}
 use Rattle.clic_tool.specs.Lines.{refusal_line}
 use Rattle.clic_tool.specs.Stages.{image_limit, image_stage, scenario_limit, scenario_stage, source_limit, source_stage}
 
@@ -67,9 +68,19 @@ program_due words program = record { text = program_text words.wants_symbols pro
 abbrev pub assemble_plan : AssembleWords → Plan
 assemble_plan words = Asks words.source_name source_limit (λ bytes. go_on refusal_line (source_stage bytes) (λ program. Makes (program_due words program)))
 
+-- ---- a disassembly
+
+-- the source of an image
+abbrev pub listing_due : ImageView → Due
+listing_due image = record { text = image_source image; status = Done }
+
+abbrev pub disassemble_plan : DisassembleWords → Plan
+disassemble_plan words = Asks words.image_name image_limit (λ bytes. go_on refusal_line (image_stage bytes) (λ image. Makes (listing_due image)))
+
 -- ---- any words
 
 abbrev pub plan_of : Option Order → Plan
 plan_of None = Makes usage_due
 plan_of (Some (Runs run)) = run_plan run
 plan_of (Some (Assembles words)) = assemble_plan words
+plan_of (Some (Disassembles words)) = disassemble_plan words

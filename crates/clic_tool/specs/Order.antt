@@ -11,6 +11,10 @@ run_app = with_rule (with_rule (with_rule (with_rule (new_app (codes "run")) (te
 abbrev pub assemble_app : App
 assemble_app = with_rule (with_rule (new_app (codes "asm")) (text_rule (codes "SOURCE"))) (flag_rule (codes "symbols"))
 
+-- `disasm`: a file
+abbrev pub disassemble_app : App
+disassemble_app = with_rule (new_app (codes "disasm")) (text_rule (codes "IMAGE"))
+
 -- the files, the bound, and whether a trace is wanted
 pub record RunWords : Type 0 where
   pub image_name : Text
@@ -22,6 +26,10 @@ pub record RunWords : Type 0 where
 pub record AssembleWords : Type 0 where
   pub source_name : Text
   pub wants_symbols : Bool
+
+-- the file
+pub record DisassembleWords : Type 0 where
+  pub image_name : Text
 
 -- what clap finds in the words. Each is there where clap takes them
 unfoldable pub run_in : List Row → RunWords
@@ -38,13 +46,18 @@ assemble_in rows = record {
   wants_symbols = is_flag_on (one_of (codes "symbols") rows);
 }
 
+unfoldable pub disassemble_in : List Row → DisassembleWords
+disassemble_in rows = record { image_name = unwrap_or (first_of (codes "IMAGE") rows) [] }
+
 pub data Order : Type 0 where
   Runs : RunWords → Order
   Assembles : AssembleWords → Order
+  Disassembles : DisassembleWords → Order
 
 -- the words are those of a command exactly where the first names it and clap takes them
 unfoldable pub order_of : List Text → Option Order
 order_of words =
     if starts_with (codes "run") words then option_map Runs (taken run_app run_in words)
     else (if starts_with (codes "asm") words then option_map Assembles (taken assemble_app assemble_in words)
-    else None)
+    else (if starts_with (codes "disasm") words then option_map Disassembles (taken disassemble_app disassemble_in words)
+    else None))

@@ -8,13 +8,15 @@ ghost use Rattle.tool_frame.specs.Plan.{due_of};
 ghost use Rattle.tool_frame.specs.Answers.{Ends, Follows, Misuses, IsCalm, HasDone, IsReady, Succeeds};
 ghost use Rattle.tool_frame.specs.Causes.{NoneRose, AtFile, IsAbsentFile, IsFailedFile, IsRefusedFile, StopsShort};
 ghost use Rattle.clic_tool.specs.Order.{order_of};
-ghost use Rattle.clic_tool.specs.View.{view, view_run, view_assemble};
+ghost use Rattle.clic_tool.specs.View.{view, view_run, view_assemble, view_disassemble};
 ghost use Rattle.clic_tool.specs.Lines.{refusal_line};
-ghost use Rattle.clic_tool.specs.Due.{plan_of, run_plan, scenario_plan, assemble_plan};
+ghost use Rattle.clic_tool.specs.Due.{plan_of, run_plan, scenario_plan, assemble_plan, disassemble_plan};
 ghost use Rattle.clic_tool.specs.Causes.{RanTo};
 
 use crate::assemble_order::AssembleOrder;
 use crate::assembling::write_program;
+use crate::disassemble_order::DisassembleOrder;
+use crate::disassembling::write_listing;
 use crate::order::Order;
 use crate::order_reading::read_order;
 use crate::refusal::{Refusal, Stop};
@@ -94,6 +96,25 @@ fn assemble_file<F: Shelf, W: Sink>(
     }
 }
 
+// Fetches the image and lists it.
+fn disassemble_file<F: Shelf, W: Sink>(
+    alloc: Global,
+    order: &DisassembleOrder<'_>,
+    shelf: &mut F,
+    out: &mut W,
+) -> Status
+    ensures { Follows result (disassemble_plan (view_disassemble order.now)) (F.told shelf.old) (F.told shelf.new) (W.told out.old) (W.told out.new) }
+{
+    match shelf.fetch(alloc, order.image, IMAGE_LIMIT) {
+        Ok(bytes) => match checked_image(alloc, &bytes) {
+            Ok(image) => write_listing(alloc, &image, out),
+            Err(Stop::Refused(refusal)) => end_refusal(refusal, out),
+            Err(Stop::Memory) => Status::Memory,
+        },
+        Err(fault) => end_fault(fault, order.image, out),
+    }
+}
+
 // Does what was asked for.
 fn follow<F: Shelf, W: Sink>(alloc: Global, order: &Order<'_>, shelf: &mut F, out: &mut W) -> Status
     ensures { Follows result (plan_of (Some (view order.now))) (F.told shelf.old) (F.told shelf.new) (W.told out.old) (W.told out.new) }
@@ -101,6 +122,7 @@ fn follow<F: Shelf, W: Sink>(alloc: Global, order: &Order<'_>, shelf: &mut F, ou
     match order {
         Order::Run(run) => run_files(alloc, run, shelf, out),
         Order::Assemble(assembly) => assemble_file(alloc, assembly, shelf, out),
+        Order::Disassemble(disassembly) => disassemble_file(alloc, disassembly, shelf, out),
     }
 }
 

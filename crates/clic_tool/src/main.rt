@@ -1,4 +1,4 @@
-// The commands: `clic_tool run IMAGE SCENARIO BOUND` and `clic_tool asm SOURCE`.
+// The commands `asm`, `disasm` and `run`.
 #![tactic(auto)]
 
 mod assemble_command;
@@ -9,6 +9,11 @@ mod assembling_tests;
 #[cfg(test)]
 mod board_tests;
 mod command;
+mod disassemble_command;
+mod disassemble_order;
+mod disassembling;
+#[cfg(test)]
+mod disassembling_tests;
 #[cfg(test)]
 mod interrupt_tests;
 mod order;

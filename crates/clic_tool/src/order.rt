@@ -1,5 +1,6 @@
 // What the words of a command ask for.
 use crate::assemble_order::AssembleOrder;
+use crate::disassemble_order::DisassembleOrder;
 use crate::run_order::RunOrder;
 
 /// What the words of a command ask for.
@@ -7,4 +8,5 @@ use crate::run_order::RunOrder;
 pub enum Order<'a> {
     Run(RunOrder<'a>),
     Assemble(AssembleOrder<'a>),
+    Disassemble(DisassembleOrder<'a>),
 }

@@ -6,6 +6,7 @@ ghost use Rattle.clic_tool.specs.Order.{order_of};
 ghost use Rattle.clic_tool.specs.View.{view};
 
 use crate::assemble_command::read_assemble;
+use crate::disassemble_command::read_disassemble;
 use crate::order::Order;
 use crate::run_command::read_run;
 use board_outside::Words;
@@ -38,6 +39,11 @@ pub fn read_order<'a>(alloc: Global, words: &'a Words) -> Result<Option<Order<'a
     } else if names(words, "asm") {
         match read_assemble(alloc, words.as_slice())? {
             Some(order) => Ok(Some(Order::Assemble(order))),
+            None => Ok(None),
+        }
+    } else if names(words, "disasm") {
+        match read_disassemble(alloc, words.as_slice())? {
+            Some(order) => Ok(Some(Order::Disassemble(order))),
             None => Ok(None),
         }
     } else {

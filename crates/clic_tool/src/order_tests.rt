@@ -199,6 +199,19 @@ fn words_of_an_assembly(rt: HostRuntime) -> Result<(), Fail> {
 }
 
 #[test]
+fn words_of_a_disassembly(rt: HostRuntime) -> Result<(), Fail> {
+    let words = words_of(rt.alloc(), &["disasm", "--", "-i.img"])?;
+    match read_order(rt.alloc(), &words)? {
+        Some(Order::Disassemble(order)) => assert_eq!(rt; order.image, "-i.img"),
+        _ => assert!(rt; false),
+    }
+    for list in [["disasm", "--symbols"], ["disassemble", "i.img"]] {
+        is_refused(&rt, rt.alloc(), &list)?;
+    }
+    Ok(())
+}
+
+#[test]
 fn words_that_are_no_assembly(rt: HostRuntime) -> Result<(), Fail> {
     let cases: [&[&str]; 6] = [
         &["asm"],
