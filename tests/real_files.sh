@@ -52,6 +52,8 @@ answers 4 'shelf failed folder.img\n' asm folder.img
 answers 5 'refused source UnknownMnemonic 2\n' asm bad.s
 answers 5 'refused source TooLarge\n' asm large.s
 answers 2 'usage: clic_tool asm | disasm | run | chain | monitor | gen\n' asm two.s --trace
+answers 3 'absent no.img\n' disasm no.img
+answers 5 'refused image BadMagic 0\n' disasm bad.img
 
 # A name with a space.
 "$top/clic_tool" run "a name.img" empty.txt 100 >out 2>err || fail "a name with a space: status $?"

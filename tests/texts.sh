@@ -35,6 +35,15 @@ writes 0 examples/echo.img asm examples/echo.s
 writes 0 examples/echo.report run examples/echo.img examples/echo.txt 1000
 writes 0 examples/blink.img asm examples/blink.s
 writes 0 examples/blink.report run examples/blink.img examples/blink.txt 1000 --trace
+
+# The source of an image is assembled to the image.
+source=$(mktemp)
+for name in first echo blink; do
+    ./clic_tool disasm examples/$name.img >"$source" || exit 1
+    writes 0 examples/$name.img asm "$source"
+done
+rm -f "$source"
+
 row 0 division 100
 row 0 compressed 100 --trace
 row 0 output 100
