@@ -1,0 +1,9 @@
+pub mod Rows
+pub mod Again
+pub mod Shapes
+pub mod Table
+pub mod Halves
+pub mod Sentences
+pub mod TextLines
+pub mod Fronts
+pub mod Firsts
