@@ -58,7 +58,7 @@ abbrev is_kept : ℕ → Bool
 is_kept zero = true
 is_kept (suc n) = is_number (set_of (letters (suc n))) (suc n) && is_name (letters (suc n))
 
-abbrev always : ℕ → Bool
+abbrev pub always : ℕ → Bool
 always n = true
 
 all_kept : agree_below is_kept always 16 ≡ true
@@ -72,7 +72,7 @@ set_again n h =
 
 -- ---- signed numbers
 
-value_by : (b : Bool) (n : ℕ) → nat_lt n (2 ^ 31) ≡ b → n < 2 ^ 32 → signed_value n ≡ cond b (pos n) (negsuc (2 ^ 32 - 1 - n))
+pub value_by : (b : Bool) (n : ℕ) → nat_lt n (2 ^ 31) ≡ b → n < 2 ^ 32 → signed_value n ≡ cond b (pos n) (negsuc (2 ^ 32 - 1 - n))
 value_by true n e l = cond-true (nat_lt n (2 ^ 31)) (pos n) (pos n -ℤ pos (2 ^ 32)) e
 value_by false n e l =
     let more : 2 ^ 31 ≤ n = ltb-false n (2 ^ 31) e in
@@ -85,7 +85,7 @@ signed_by false half n e h l s =
     let t : nat_lt (2 ^ 32 - 1 - n) half ≡ true = grind (arith, nat_tests) in
     cond-true (nat_lt (2 ^ 32 - 1 - n) half) (Some (2 ^ 32 - 1 - (2 ^ 32 - 1 - n))) None t ∙ ap Some (let back : 2 ^ 32 - 1 - (2 ^ 32 - 1 - n) ≡ n = omega arith in back)
 
-near_small : (half n : ℕ) → half ≤ 2 ^ 31 → is_near_zero half n ≡ true → n < 2 ^ 32
+pub near_small : (half n : ℕ) → half ≤ 2 ^ 31 → is_near_zero half n ≡ true → n < 2 ^ 32
 near_small half n h s = grind (arith, nat_tests)
 
 signed_again : (half n : ℕ) → half ≤ 2 ^ 31 → is_near_zero half n ≡ true → signed_word half (signed_value n) ≡ Some n

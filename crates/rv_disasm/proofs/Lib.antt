@@ -7,3 +7,7 @@ pub mod Sentences
 pub mod TextLines
 pub mod Fronts
 pub mod Firsts
+pub mod Passes
+pub mod Running
+pub mod Whole
+pub mod Lengths

@@ -2,6 +2,7 @@
 #![tactic(auto)]
 
 mod disassembly;
+pub mod laws;
 mod listing;
 mod printing;
 mod shown;
