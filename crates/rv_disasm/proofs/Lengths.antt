@@ -1,9 +1,10 @@
 -- No source of an image is too long for the assembler.
-use Rattle.std.proofs.Common.{◌≡◌, ℕ, zero, suc, ◌+◌, ◌-◌, ◌*◌, ◌/◌, ◌%◌, ◌^◌, ◌<◌, ◌≤◌, List, [], ◌∷◌, ◌++◌, length, Option, Some, None, Bool, true, false, cond, refl, sym, ap, subst, ◌∙◌, arith, length-append, append_assoc, lit<}
+use Rattle.std.proofs.Common.{◌≡◌, ℕ, zero, suc, ◌+◌, ◌-◌, ◌*◌, ◌/◌, ◌%◌, ◌^◌, ◌<◌, ◌≤◌, List, [], ◌∷◌, ◌++◌, length, Option, Some, None, Bool, true, false, cond, refl, sym, ap, subst, ◌∙◌, arith, length-append, append_assoc, lit<, get_or, Fits, w8}
 use Rattle.std.specs.Prelude.{nat_lt, nat_le, ◌&&◌, ◌||◌, ◌==◌, ℤ, pos, negsuc}
 use Rattle.std.specs.List.{flat_map, AllByRecursion, list_all}
 use Rattle.std.specs.Fmt.{decimal, signed_decimal}
 use Rattle.std.proofs.lemmas.Fmt.{length-decimal-le}
+use Rattle.std.proofs.Math.Facts.{Fits-lt-pow}
 use Rattle.std.proofs.lemmas.List.{append-nil}
 use Rattle.std.proofs.lemmas.List.Sums.{sum_by-cons}
 use Rattle.std.proofs.lemmas.List.Elements.{All-cons}
@@ -243,3 +244,12 @@ pub listing_returns : (base : ℕ) (bytes : List ℕ) → AreBytes bytes → 0 <
 listing_returns base bytes r some h =
     let small = holds_small base (length bytes) h in
     ap assembled (sym (one_is base bytes)) ∙ image_returns (record { start = base; segments = record { address = base; content = bytes } ∷ [] }) (omega arith) (one_sound base bytes some h) (r, tt)
+
+-- bytes are below 256
+bytes_from : (bytes : List ℕ) → ((i : ℕ) → Fits w8 (get_or bytes i 0)) → AreBytes bytes
+bytes_from [] h = tt
+bytes_from (b ∷ bs) h = (Fits-lt-pow (h 0), bytes_from bs (λ i. h (suc i)))
+
+pub text_returns : (base : ℕ) (bytes text : List ℕ) → ((i : ℕ) → Fits w8 (get_or bytes i 0)) → text ≡ listing base bytes → 0 < length bytes → holds base (length bytes) ≡ true
+    → assembled (heading base ++ text) ≡ Ok (record { image = record { start = base; segments = record { address = base; content = bytes } ∷ [] }; symbols = [] })
+text_returns base bytes text r e some h = ap (λ t. assembled (heading base ++ t)) e ∙ listing_returns base bytes (bytes_from bytes r) some h

@@ -1,6 +1,6 @@
 -- An image's source is assembled to the image.
-use Rattle.std.proofs.Common.{◌≡◌, ℕ, suc, ◌+◌, ◌^◌, ◌<◌, ◌≤◌, List, [], ◌∷◌, ◌++◌, length, map, take, drop, get_or, Option, None, Bool, true, false, cond, refl, sym, ap, subst, ◌∙◌, arith, append_assoc, lit<}
-use Rattle.std.specs.Prelude.{nat_lt, nat_le, ◌||◌, not, All}
+use Rattle.std.proofs.Common.{◌≡◌, ℕ, zero, suc, ◌+◌, ◌^◌, ◌<◌, ◌≤◌, List, [], ◌∷◌, ◌++◌, length, map, take, drop, get_or, Option, Some, None, Bool, true, false, cond, refl, sym, ap, subst, ◌∙◌, arith, append_assoc, lit<}
+use Rattle.std.specs.Prelude.{nat_lt, nat_le, ◌||◌, not, All, option_map, slice_get}
 use Rattle.std.specs.List.{flat_map, AllByRecursion, AllPairs, list_any, slice_index_or}
 use Rattle.std.proofs.lemmas.List.{append-nil, length-append}
 use Rattle.std.proofs.lemmas.List.Elements.{All-head, All-tail}
@@ -192,3 +192,58 @@ stand older (s ∷ ss) few p a h b =
 
 pub stands : (segments : List SegmentView) → AreSound segments → AreAllBytes segments → StandBeside [] segments
 stands segments h b = stand [] segments (omega (arith, h.few)) h.placed h.apart (λ k d l. refl) b
+
+-- ---- one segment after another
+
+at_index : (segments : List SegmentView) (i : ℕ) (s : SegmentView) → slice_get segments i ≡ Some s → drop i segments ≡ s ∷ drop (suc i) segments
+at_index [] i s e = cc
+at_index (x ∷ xs) zero s e = let same : x ≡ s = cc in ap (λ y. y ∷ xs) same
+at_index (x ∷ xs) (suc i) s e = at_index xs i s e
+
+-- the segment that a place and bytes were read from
+pub record SegmentAt (segments : List SegmentView) (i base : ℕ) (bytes : List ℕ) : Type 0 where
+  pub is : slice_get segments i ≡ Some (record { address = base; content = bytes })
+  pub on : drop i segments ≡ record { address = base; content = bytes } ∷ drop (i + 1) segments
+
+segment_by : (o : Option SegmentView) (base : ℕ) (bytes : List ℕ) → option_map (λ s. s.address) o ≡ Some base → option_map (λ s. s.content) o ≡ Some bytes → o ≡ Some (record { address = base; content = bytes })
+segment_by None base bytes e f = cc
+segment_by (Some s) base bytes e f =
+    let a : s.address ≡ base = cc in
+    let b : s.content ≡ bytes = cc in
+    let x : List ℕ → Option SegmentView = λ t. Some (record { address = s.address; content = t }) in
+    ap x b ∙ ap (λ n. Some (record { address = n; content = bytes })) a
+
+pub segment_at : (segments : List SegmentView) (i base : ℕ) (bytes : List ℕ) → option_map (λ s. s.address) (slice_get segments i) ≡ Some base → option_map (λ s. s.content) (slice_get segments i) ≡ Some bytes → SegmentAt segments i base bytes
+segment_at segments i base bytes e f =
+    let is = segment_by (slice_get segments i) base bytes e f in
+    let s : SegmentView = record { address = base; content = bytes } in
+    let one : suc i ≡ i + 1 = omega arith in
+    record { is = is; on = at_index segments i s is ∙ ap (λ n. s ∷ drop n segments) one }
+
+placed_at : (segments : List SegmentView) (i : ℕ) (s : SegmentView) → All IsPlaced segments → slice_get segments i ≡ Some s → IsPlaced s
+placed_at [] i s p e = cc
+placed_at (x ∷ xs) zero s p e = let same : x ≡ s = cc in subst IsPlaced same (All-head IsPlaced x xs p)
+placed_at (x ∷ xs) (suc i) s p e = placed_at xs i s (All-tail IsPlaced x xs p) e
+
+-- a segment ends below 2 ^ 32
+pub segment_small : (segments : List SegmentView) (i base : ℕ) (bytes : List ℕ) → AreSound segments → option_map (λ s. s.address) (slice_get segments i) ≡ Some base → option_map (λ s. s.content) (slice_get segments i) ≡ Some bytes → base + length bytes < 2 ^ 32
+segment_small segments i base bytes h e f =
+    let s = segment_at segments i base bytes e f in
+    holds_small base (length bytes) (placed_at segments i (record { address = base; content = bytes }) h.placed s.is).1
+
+-- the text with a segment's text, and with those of the segments behind it
+pub segment_on : (segments : List SegmentView) (i base : ℕ) (bytes start org whole : List ℕ) → SegmentAt segments i base bytes → org ≡ start ++ org_text base → whole ≡ org ++ listing base bytes
+    → whole ++ flat_map segment_text (drop (i + 1) segments) ≡ start ++ flat_map segment_text (drop i segments)
+unfolding segment_text
+segment_on segments i base bytes start org whole s e f =
+    let rest = flat_map segment_text (drop (i + 1) segments) in
+    let own = listing base bytes in
+    ap (λ t. t ++ rest) (f ∙ ap (λ t. t ++ own) e ∙ append_assoc start (org_text base) own)
+    ∙ append_assoc start (org_text base ++ own) rest
+    ∙ sym (ap (λ ss. start ++ flat_map segment_text ss) s.on)
+
+pub none_left : (segments : List SegmentView) (i : ℕ) → length segments ≤ i → drop i segments ≡ []
+none_left [] zero h = refl
+none_left [] (suc i) h = refl
+none_left (x ∷ xs) zero h = absurd (omega arith)
+none_left (x ∷ xs) (suc i) h = none_left xs i (omega arith)

