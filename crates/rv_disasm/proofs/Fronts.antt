@@ -16,7 +16,7 @@ use Rattle.rvc_encoding.specs.Halves.{half_of}
 use Rattle.rvc_encoding.specs.declared.compressed.Cins.{Cins}
 use Rattle.rvc_encoding.proofs.Apart.{spelled_spells as half_spelled_spells}
 use Rattle.rvc_encoding.proofs.Again.{half-spells, fits-spells}
-use Rattle.rv_assembler.specs.Operations.{bytes_of}
+use Rattle.asm_forms.specs.Operations.{bytes_of}
 use Rattle.rv_disasm.specs.Fitting.{statement_fits}
 use Rattle.rv_disasm.specs.Listing.{short_or, long_or, word_statement, long_first, half_first, first_statement, size_of, further, listed, AreBytes}
 use Rattle.rv_disasm.specs.declared.statement.Statement.{Statement}

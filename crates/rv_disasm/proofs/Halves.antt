@@ -11,14 +11,14 @@ use Rattle.rvc_encoding.specs.Fits.{fits_row}
 use Rattle.rvc_encoding.specs.declared.compressed.Cins.{Cins}
 use Rattle.rvc_encoding.specs.declared.row.CRow.{CRow}
 use Rattle.rvc_encoding.specs.declared.row.CRow.TheVariants.{Addi4spn, Lw, Sw, Nop, Addi, Jal, Li, Addi16sp, Lui, Srli, Srai, Andi, Sub, Xor, Or, And, J, Beqz, Bnez, Slli, Lwsp, Jr, Mv, Ebreak, Jalr, Add, Swsp}
-use Rattle.rv_assembler.specs.Operations.{made, operation_fits, extent_of}
+use Rattle.asm_forms.specs.Operations.{made, operation_fits, extent_of}
 use Rattle.rv_assembler.specs.Source.{resolved}
-use Rattle.rv_assembler.specs.Forms.{stack_sum as stack_sum_items, short_load, short_store, nothing, short_signed, rd_short_signed, target, stack_change as stack_change_items, upper as upper_items, short_shift, rd_rs1, rd_target, stack_load as stack_load_items, rd as rd_items, stack_store as stack_store_items}
-use Rattle.rv_assembler.specs.declared.item.Item.{Item}
-use Rattle.rv_assembler.specs.declared.kind.Kind.TheVariants.{Short as ShortKind}
-use Rattle.rv_assembler.specs.declared.operation.Operation.{Operation}
-use Rattle.rv_assembler.specs.declared.operation.Operation.TheVariants.{Compressed}
-use Rattle.rv_assembler.specs.declared.extent.Extent.TheVariants.{Takes}
+use Rattle.asm_forms.specs.Forms.{stack_sum as stack_sum_items, short_load, short_store, nothing, short_signed, rd_short_signed, target, stack_change as stack_change_items, upper as upper_items, short_shift, rd_rs1, rd_target, stack_load as stack_load_items, rd as rd_items, stack_store as stack_store_items}
+use Rattle.asm_forms.specs.declared.item.Item.{Item}
+use Rattle.asm_forms.specs.declared.kind.Kind.TheVariants.{Short as ShortKind}
+use Rattle.asm_forms.specs.declared.operation.Operation.{Operation}
+use Rattle.asm_forms.specs.declared.operation.Operation.TheVariants.{Compressed}
+use Rattle.asm_forms.specs.declared.extent.Extent.TheVariants.{Takes}
 use Rattle.rv_disasm.specs.Shown.{values, row_for}
 use Rattle.rv_disasm.specs.Fitting.{is_word, is_near_zero, items_fit}
 use Rattle.rv_disasm.proofs.Again.{three}

@@ -8,15 +8,15 @@ use Rattle.std.proofs.lemmas.Bool.{cond-true}
 use Rattle.asm_text.specs.Lexing.{lexed}
 use Rattle.asm_text.specs.Pieces.{printed}
 use Rattle.hart_memory.specs.Place.{holds}
-use Rattle.rv_assembler.specs.Operations.{operation_fits, bytes_of, made, extent_of}
-use Rattle.rv_assembler.specs.Statements.{Task, Reading, reading}
+use Rattle.asm_forms.specs.Operations.{operation_fits, bytes_of, made, extent_of}
+use Rattle.asm_forms.specs.Statements.{Task, Reading, reading}
 use Rattle.rv_assembler.specs.Symbols.{Symbol}
 use Rattle.rv_assembler.specs.Laying.{Laid, laid, is_full, grown, overlaps, shut}
 use Rattle.rv_assembler.specs.Source.{◌>>=◌, at_line, pass, Refusal, Passed, with_laying, first_read, first_line, Built, resolved, reached, moved, entry_by, with_operation, second_task, second_by, task_of, second_line}
-use Rattle.rv_assembler.specs.declared.asm_why.AsmWhy.{AsmWhy}
-use Rattle.rv_assembler.specs.declared.operation.Operation.{Operation}
-use Rattle.rv_assembler.specs.declared.extent.Extent.{Extent}
-use Rattle.rv_assembler.specs.declared.extent.Extent.TheVariants.{Jumps, Marks, Takes}
+use Rattle.asm_forms.specs.declared.asm_why.AsmWhy.{AsmWhy}
+use Rattle.asm_forms.specs.declared.operation.Operation.{Operation}
+use Rattle.asm_forms.specs.declared.extent.Extent.{Extent}
+use Rattle.asm_forms.specs.declared.extent.Extent.TheVariants.{Jumps, Marks, Takes}
 use Rattle.rv_disasm.specs.Fitting.{statement_fits}
 use Rattle.rv_disasm.specs.Printing.{line_pieces}
 use Rattle.rv_disasm.specs.Listing.{behind, lines_from}

@@ -1,8 +1,8 @@
 -- The table of forms, row by row.
 use Rattle.std.proofs.Common.{◌≡◌, ℕ, suc, ◌+◌, ◌<◌, List, ◌∷◌, drop, get_or, length, Some, cond, ap, ◌∙◌, arith, drop-cons}
-use Rattle.rv_assembler.specs.Seen.{row_of, form_rows}
-use Rattle.rv_assembler.specs.declared.form.Form.{Form}
-use Rattle.rv_assembler.specs.declared.kind.Kind.{Kind}
+use Rattle.asm_forms.specs.Seen.{row_of, form_rows}
+use Rattle.asm_forms.specs.declared.form.Form.{Form}
+use Rattle.asm_forms.specs.declared.kind.Kind.{Kind}
 use Rattle.rv_disasm.specs.Shown.{prints, row_in}
 
 -- a table from one of its rows on

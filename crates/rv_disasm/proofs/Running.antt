@@ -11,12 +11,12 @@ use Rattle.hart_memory.specs.Place.{place, place_by, is_in_rom, is_in_ram, is_in
 use Rattle.hart_memory.specs.Image.{SegmentView}
 use Rattle.hart_memory.specs.declared.image.TheConstants.{MAX_SEGMENTS}
 use Rattle.rv_assembler.specs.Laying.{Laid, laid, is_full, grow, grown, shut, are_apart, overlaps}
-use Rattle.rv_assembler.specs.Operations.{bytes_of}
+use Rattle.asm_forms.specs.Operations.{bytes_of}
 use Rattle.rv_assembler.specs.Source.{◌>>=◌, Built, entry_by}
-use Rattle.rv_assembler.specs.declared.asm_why.AsmWhy.{AsmWhy}
-use Rattle.rv_assembler.specs.declared.asm_why.AsmWhy.TheVariants.{OutsideMemory, Overlap, TooLarge}
+use Rattle.asm_forms.specs.declared.asm_why.AsmWhy.{AsmWhy}
+use Rattle.asm_forms.specs.declared.asm_why.AsmWhy.TheVariants.{OutsideMemory, Overlap, TooLarge}
 use Rattle.rv_assembler.specs.declared.stretch.Stretch.{Stretch}
-use Rattle.rv_assembler.specs.declared.extent.Extent.TheVariants.{Takes}
+use Rattle.asm_forms.specs.declared.extent.Extent.TheVariants.{Takes}
 use Rattle.rv_disasm.specs.Listing.{listed, AreBytes, size_of}
 use Rattle.rv_disasm.specs.declared.statement.Statement.{Statement}
 use Rattle.rv_disasm.specs.declared.statement.Statement.TheVariants.{Entry, Org, Byte, Half, Word, Long, Short}

@@ -13,19 +13,19 @@ use Rattle.asm_text.specs.declared.lex_fault.LexFault.{LexFault}
 use Rattle.asm_text.proofs.Rereading.{relexed}
 use Rattle.rv_encoding.specs.Fits.{can_be_spelled}
 use Rattle.rvc_encoding.specs.Fits.{fits_row}
-use Rattle.rv_assembler.specs.Operands.{Operands, no_operands}
-use Rattle.rv_assembler.specs.Operations.{made, operation_fits, extent_of, first_value}
-use Rattle.rv_assembler.specs.Fields.{read_items, is_marked, label_in}
-use Rattle.rv_assembler.specs.Forms.{Row, form}
-use Rattle.rv_assembler.specs.Statements.{Task, task_by, task_or, read_form, task_named, some_task, statement_of, label_of, after_label, Reading, reading_of, reading_by, reading}
-use Rattle.rv_assembler.specs.declared.asm_why.AsmWhy.{AsmWhy}
-use Rattle.rv_assembler.specs.declared.item.Item.{Item}
-use Rattle.rv_assembler.specs.declared.item.Item.TheVariants.{Operand, Mark}
-use Rattle.rv_assembler.specs.declared.kind.Kind.{Kind}
-use Rattle.rv_assembler.specs.declared.operation.Operation.{Operation}
-use Rattle.rv_assembler.specs.declared.operation.Operation.TheVariants.{Moves, Enters, PutsByte, PutsHalf, PutsWord, Long as LongOperation, Compressed}
-use Rattle.rv_assembler.specs.declared.extent.Extent.{Extent}
-use Rattle.rv_assembler.specs.declared.extent.Extent.TheVariants.{Jumps, Marks, Takes}
+use Rattle.asm_forms.specs.Operands.{Operands, no_operands}
+use Rattle.asm_forms.specs.Operations.{made, operation_fits, extent_of, first_value}
+use Rattle.asm_forms.specs.Fields.{read_items, is_marked, label_in}
+use Rattle.asm_forms.specs.Forms.{Row, form}
+use Rattle.asm_forms.specs.Statements.{Task, task_by, task_or, read_form, task_named, some_task, statement_of, label_of, after_label, Reading, reading_of, reading_by, reading}
+use Rattle.asm_forms.specs.declared.asm_why.AsmWhy.{AsmWhy}
+use Rattle.asm_forms.specs.declared.item.Item.{Item}
+use Rattle.asm_forms.specs.declared.item.Item.TheVariants.{Operand, Mark}
+use Rattle.asm_forms.specs.declared.kind.Kind.{Kind}
+use Rattle.asm_forms.specs.declared.operation.Operation.{Operation}
+use Rattle.asm_forms.specs.declared.operation.Operation.TheVariants.{Moves, Enters, PutsByte, PutsHalf, PutsWord, Long as LongOperation, Compressed}
+use Rattle.asm_forms.specs.declared.extent.Extent.{Extent}
+use Rattle.asm_forms.specs.declared.extent.Extent.TheVariants.{Jumps, Marks, Takes}
 use Rattle.rv_disasm.specs.Shown.{kind_of, values_of, row_for, row_of}
 use Rattle.rv_disasm.specs.Printing.{field_piece, items_pieces, operands_pieces, row_pieces, line_pieces}
 use Rattle.rv_disasm.specs.Fitting.{field_fits, starts_with_mark, items_fit, statement_fits, room_for}

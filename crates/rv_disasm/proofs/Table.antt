@@ -23,19 +23,19 @@ use Rattle.rv_encoding.specs.declared.operations.CsrOp.{CsrOp}
 use Rattle.rv_encoding.specs.declared.operations.CsrOp.TheVariants.{Csrrw, Csrrs, Csrrc, Csrrwi, Csrrsi, Csrrci}
 use Rattle.rvc_encoding.specs.declared.row.CRow.{CRow}
 use Rattle.rvc_encoding.specs.declared.row.CRow.TheVariants.{Addi4spn as CAddi4spn, Lw as CLw, Sw as CSw, Nop as CNop, Addi as CAddi, Jal as CJal, Li as CLi, Addi16sp as CAddi16sp, Lui as CLui, Srli as CSrli, Srai as CSrai, Andi as CAndi, Sub as CSub, Xor as CXor, Or as COr, And as CAnd, J as CJ, Beqz as CBeqz, Bnez as CBnez, Slli as CSlli, Lwsp as CLwsp, Jr as CJr, Mv as CMv, Ebreak as CEbreak, Jalr as CJalr, Add as CAdd, Swsp as CSwsp}
-use Rattle.rv_assembler.specs.Forms.{Row, form, short_signed}
-use Rattle.rv_assembler.specs.Statements.{Task, read_form, task_named, task_or}
-use Rattle.rv_assembler.specs.declared.asm_why.AsmWhy.{AsmWhy}
-use Rattle.rv_assembler.specs.declared.asm_why.AsmWhy.TheVariants.{BadOperands}
-use Rattle.rv_assembler.specs.declared.field.Field.{Field}
-use Rattle.rv_assembler.specs.declared.field.Field.TheVariants.{Rd, Rs1, Rs2, Csr as CsrField, Source, Pred, Succ, Signed, Below, Digits, Upper, Amount, Word as AnyWord, Label, Address, Target}
-use Rattle.rv_assembler.specs.declared.item.Item.{Item}
-use Rattle.rv_assembler.specs.declared.item.Item.TheVariants.{Operand, Mark}
-use Rattle.rv_assembler.specs.declared.kind.Kind.{Kind}
-use Rattle.rv_assembler.specs.declared.kind.Kind.TheVariants.{Org as OrgKind, Entry as EntryKind, Byte as ByteKind, Half as HalfKind, Word as WordKind, Lui as LuiKind, Auipc as AuipcKind, Jal as JalKind, Jalr as JalrKind, Branch as BranchKind, Load as LoadKind, Store as StoreKind, Imm as ImmKind, Reg as RegKind, Fence as FenceKind, Csr as CsrKind, Fixed as FixedKind, Short as ShortKind}
-use Rattle.rv_assembler.specs.declared.operation.Operation.{Operation}
-use Rattle.rv_assembler.specs.declared.operation.Operation.TheVariants.{Long as LongOperation}
-use Rattle.rv_assembler.specs.declared.extent.Extent.TheVariants.{Takes}
+use Rattle.asm_forms.specs.Forms.{Row, form, short_signed}
+use Rattle.asm_forms.specs.Statements.{Task, read_form, task_named, task_or}
+use Rattle.asm_forms.specs.declared.asm_why.AsmWhy.{AsmWhy}
+use Rattle.asm_forms.specs.declared.asm_why.AsmWhy.TheVariants.{BadOperands}
+use Rattle.asm_forms.specs.declared.field.Field.{Field}
+use Rattle.asm_forms.specs.declared.field.Field.TheVariants.{Rd, Rs1, Rs2, Csr as CsrField, Source, Pred, Succ, Signed, Below, Digits, Upper, Amount, Word as AnyWord, Label, Address, Target}
+use Rattle.asm_forms.specs.declared.item.Item.{Item}
+use Rattle.asm_forms.specs.declared.item.Item.TheVariants.{Operand, Mark}
+use Rattle.asm_forms.specs.declared.kind.Kind.{Kind}
+use Rattle.asm_forms.specs.declared.kind.Kind.TheVariants.{Org as OrgKind, Entry as EntryKind, Byte as ByteKind, Half as HalfKind, Word as WordKind, Lui as LuiKind, Auipc as AuipcKind, Jal as JalKind, Jalr as JalrKind, Branch as BranchKind, Load as LoadKind, Store as StoreKind, Imm as ImmKind, Reg as RegKind, Fence as FenceKind, Csr as CsrKind, Fixed as FixedKind, Short as ShortKind}
+use Rattle.asm_forms.specs.declared.operation.Operation.{Operation}
+use Rattle.asm_forms.specs.declared.operation.Operation.TheVariants.{Long as LongOperation}
+use Rattle.asm_forms.specs.declared.extent.Extent.TheVariants.{Takes}
 use Rattle.rv_disasm.specs.Shown.{long_kind, long_values, row_for}
 use Rattle.rv_disasm.specs.Fitting.{room_for}
 use Rattle.rvc_encoding.specs.Fits.{fits_row}

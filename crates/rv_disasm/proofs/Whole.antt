@@ -14,7 +14,7 @@ use Rattle.hart_memory.specs.Place.{holds}
 use Rattle.hart_memory.specs.Image.{SegmentView, ImageView, is_apart, IsPlaced, AreApart, AreSound}
 use Rattle.rv_assembler.specs.Laying.{are_apart, overlaps, shut, laid}
 use Rattle.rv_assembler.specs.Lines.{lines_of}
-use Rattle.rv_assembler.specs.Operations.{bytes_of}
+use Rattle.asm_forms.specs.Operations.{bytes_of}
 use Rattle.rv_assembler.specs.Source.{◌>>=◌, pass, Passed, Built, Refusal, Program, with_laying, nothing_passed, nothing_built, first_line, second_line, cut_segments, image_of, ended, of_lines, assembled}
 use Rattle.rv_assembler.specs.declared.assembling.TheConstants.{MAX_SOURCE}
 use Rattle.rv_assembler.specs.declared.stretch.Stretch.{Stretch}

@@ -1,8 +1,8 @@
 -- The code's rows, as the definitions see them.
 use Rattle.std.specs.Prelude.{Option, Some, None}
-use Rattle.rv_assembler.specs.Forms.{Row}
-use Rattle.rv_assembler.specs.Seen.{row_of}
-use Rattle.rv_assembler.specs.declared.form.Form.{Form}
+use Rattle.asm_forms.specs.Forms.{Row}
+use Rattle.asm_forms.specs.Seen.{row_of}
+use Rattle.asm_forms.specs.declared.form.Form.{Form}
 
 abbrev pub row_option : Option Form → Option Row
 row_option None = None

@@ -1,7 +1,7 @@
 // How a line of a listing is printed.
 ghost use Rattle.std.specs.Prelude.{◌≡◌, ◌+◌, ◌<◌, ◌≤◌, ◌++◌, ◌%◌, ◌^◌, ◌∷◌, [], true, length};
 ghost use Rattle.asm_text.specs.Pieces.{printed, text_of};
-ghost use Rattle.rv_assembler.specs.Seen.{row_of};
+ghost use Rattle.asm_forms.specs.Seen.{row_of};
 ghost use Rattle.rv_disasm.specs.Fitting.{field_fits, items_fit, statement_fits, room_of, room_for};
 ghost use Rattle.rv_disasm.specs.Printing.{letter, letters, set_piece, csr_by, field_piece, mark_pieces, item_pieces, items_pieces, operands_pieces, row_pieces, line_pieces};
 ghost use Rattle.asm_text.specs.Names.{csr_name};
@@ -11,7 +11,7 @@ use crate::statement::Statement;
 use crate::values::Values;
 use asm_text::{TokenKind, csr_name, put_decimal, put_hexadecimal, register_name};
 use hart_words::{LINE_LEN, Line, field, signed};
-use rv_assembler::{Field, Item};
+use asm_forms::{Field, Item};
 
 fn put_letter(line: &mut Line, text: &str, set: u8, bit: u32)
     requires small { bit < 4 }

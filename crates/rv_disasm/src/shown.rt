@@ -1,12 +1,12 @@
 // What a line of a listing shows.
 ghost use Rattle.std.specs.Prelude.{◌≡◌};
-ghost use Rattle.rv_assembler.specs.Seen.{row_of, form_rows};
+ghost use Rattle.asm_forms.specs.Seen.{row_of, form_rows};
 ghost use Rattle.rv_disasm.specs.Shown.{long_kind, kind_of, values, long_values, values_of, has_place, prints, row_in, row_for};
 ghost use Rattle.rv_disasm.specs.Tables.{row_option};
 
 use crate::statement::Statement;
 use crate::values::Values;
-use rv_assembler::{Form, Item, Kind, all_forms};
+use asm_forms::{Form, Item, Kind, all_forms};
 use rv_encoding::Ins;
 
 fn long_kind(instruction: &Ins) -> Kind

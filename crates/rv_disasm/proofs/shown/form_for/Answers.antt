@@ -1,7 +1,7 @@
 use Rattle.std.proofs.Common.{[], ap, ◌∙◌}
 use Rattle.std.specs.Prelude.{unwrap_or}
-use Rattle.rv_assembler.specs.Forms.{form}
-use Rattle.rv_assembler.specs.declared.kind.Kind.TheVariants.{Org}
+use Rattle.asm_forms.specs.Forms.{form}
+use Rattle.asm_forms.specs.declared.kind.Kind.TheVariants.{Org}
 use Rattle.rv_disasm.specs.Shown.{row_in, row_for}
 use Rattle.rv_disasm.proofs.shown.form_for.Goals as goal
 

@@ -1,5 +1,5 @@
 use Rattle.std.proofs.Common.{◌≡◌, drop}
-use Rattle.rv_assembler.specs.Seen.{form_rows}
+use Rattle.asm_forms.specs.Seen.{form_rows}
 use Rattle.rv_disasm.specs.Shown.{row_in}
 use Rattle.rv_disasm.proofs.shown.form_in.Given as goal
 
