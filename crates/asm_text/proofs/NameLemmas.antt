@@ -39,7 +39,7 @@ below_by : (test : Bool) (n bound : ℕ) (rest : Option ℕ) → nat_lt n bound 
 below_by true n bound rest h r = let small : n < bound = grind (arith, nat_tests) in small
 below_by false n bound rest h r = r
 
-numbers_below : (rows : Names) (bound : ℕ) (t : List ℕ) → list_all (λ row. nat_lt row.1 bound) rows ≡ true → IfSome (number_in rows t) (λ m. m < bound)
+pub numbers_below : (rows : Names) (bound : ℕ) (t : List ℕ) → list_all (λ row. nat_lt row.1 bound) rows ≡ true → IfSome (number_in rows t) (λ m. m < bound)
 numbers_below [] bound t e = tt
 numbers_below (row ∷ rows) bound t e =
     let split = both (nat_lt row.1 bound) (list_all (λ row. nat_lt row.1 bound) rows) e in

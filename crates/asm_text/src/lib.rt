@@ -20,6 +20,7 @@ mod tokens;
 pub use csrs::{csr_name, csr_of};
 pub use lex_fault::LexFault;
 pub use lexer::lex_line;
+pub use named::{Named, name_in, number_in};
 pub use printing::{put_decimal, put_hexadecimal};
 pub use registers::{register_name, register_of};
 pub use token::Token;

@@ -4,11 +4,11 @@ ghost use Rattle.std.specs.Option.{option_map};
 ghost use Rattle.asm_text.specs.Names.{number_in, name_in};
 ghost use Rattle.asm_text.specs.Tables.{rows_of};
 
-// A name with its number.
+/// A name with its number.
 #[derive(Clone, Copy, Drop)]
 pub struct Named(pub &'static str, pub u16);
 
-// The number of a name of the table.
+/// The number of a name of the table.
 pub fn number_in(table: &[Named], name: &[u8]) -> Option<u16>
     ensures { result ≡ number_in (rows_of table.now) name.now }
 {
@@ -20,7 +20,7 @@ pub fn number_in(table: &[Named], name: &[u8]) -> Option<u16>
     None
 }
 
-// The first name of a number of the table.
+/// The first name of a number of the table.
 pub fn name_in(table: &[Named], number: u16) -> Option<&'static str>
     ensures { option_map (λ name. name.now) result ≡ name_in (rows_of table.now) number }
 {

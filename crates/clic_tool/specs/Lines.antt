@@ -5,8 +5,8 @@ use Rattle.board_inputs.specs.declared.image_why.ImageWhy.{ImageWhy}
 use Rattle.board_inputs.specs.declared.image_why.ImageWhy.TheVariants.{BadMagic, Truncated, OutsideMemory, Overlap, TooMany, Trailing}
 use Rattle.board_inputs.specs.declared.scenario_why.ScenarioWhy.{ScenarioWhy}
 use Rattle.board_inputs.specs.declared.scenario_why.ScenarioWhy.TheVariants.{BadLine, OutOfOrder, TooMany as TooManyEvents}
-use Rattle.rv_assembler.specs.declared.asm_why.AsmWhy.{AsmWhy}
-use Rattle.rv_assembler.specs.declared.asm_why.AsmWhy.TheVariants.{Lex, UnknownMnemonic, BadOperands, UnknownLabel, DoubleLabel, OutOfReach, OutsideMemory as SourceOutsideMemory, Overlap as SourceOverlap, NoEntry, TooLarge}
+use Rattle.asm_forms.specs.declared.asm_why.AsmWhy.{AsmWhy}
+use Rattle.asm_forms.specs.declared.asm_why.AsmWhy.TheVariants.{Lex, UnknownMnemonic, BadOperands, UnknownLabel, DoubleLabel, OutOfReach, OutsideMemory as SourceOutsideMemory, Overlap as SourceOverlap, NoEntry, TooLarge}
 use Rattle.clic_tool.specs.declared.refusal.Refusal.{Refusal}
 use Rattle.clic_tool.specs.declared.refusal.Refusal.TheVariants.{ImageTooLarge, BadImage, ScenarioTooLarge, BadScenario, SourceTooLarge, BadSource}
 

@@ -3,18 +3,16 @@ use Rattle.std.proofs.Common.{◌≡◌, ℕ, suc, ◌+◌, ◌<◌, ◌≤◌, 
 use Rattle.std.specs.Prelude.{◌||◌, not}
 use Rattle.std.proofs.lemmas.List.{append-nil, length-take-le}
 use Rattle.hart_memory.specs.Place.{holds}
-use Rattle.hart_memory.specs.Image.{SegmentView, meets_any, is_apart}
+use Rattle.hart_memory.specs.Image.{SegmentView, meets_any, is_apart, AreSound}
+use Rattle.hart_memory.proofs.ImageLemmas.{sound_push}
 use Rattle.rv_assembler.specs.Laying.{overlaps}
 use Rattle.rv_assembler.specs.Placing.{AllFollow, total, CanBeCut}
+use Rattle.rv_assembler.specs.Relation.{stretch_of}
 use Rattle.rv_assembler.specs.Source.{cut_segments}
 use Rattle.rv_assembler.specs.declared.stretch.Stretch.{Stretch}
 
--- a segment without its bytes
-abbrev pub size_of : SegmentView → Stretch
-size_of s = record { base = s.address; size = length s.content }
-
 abbrev pub sized : List SegmentView → List Stretch
-sized ss = map size_of ss
+sized ss = map stretch_of ss
 
 -- what is left to add, and its bytes
 pub record Adding (whole : List SegmentView) (left : List Stretch) (rest : List ℕ) (segments : List SegmentView) : Type 0 where
@@ -53,9 +51,9 @@ can_add whole s ss rest content segments h is =
       room = omega (arith, h.few);
     }
 
-sized_more : (segments : List SegmentView) (s : SegmentView) → sized (segments ++ s ∷ []) ≡ sized segments ++ size_of s ∷ []
+pub sized_more : (segments : List SegmentView) (s : SegmentView) → sized (segments ++ s ∷ []) ≡ sized segments ++ stretch_of s ∷ []
 sized_more [] s = refl
-sized_more (x ∷ xs) s = ap (λ ys. size_of x ∷ ys) (sized_more xs s)
+sized_more (x ∷ xs) s = ap (λ ys. stretch_of x ∷ ys) (sized_more xs s)
 
 pub adds : (whole : List SegmentView) (s : Stretch) (ss : List Stretch) (rest content after : List ℕ) (segments : List SegmentView) → Adding whole (s ∷ ss) rest segments → content ≡ take s.size rest → after ≡ drop s.size rest
     → Adding whole ss after (segments ++ record { address = s.base; content = content } ∷ [])
@@ -81,3 +79,26 @@ left_on xs i d h =
 
 pub none_over : (xs : List Stretch) (i : ℕ) → length xs ≤ i → length (drop i xs) ≡ 0
 none_over xs i h = omega (arith, length-drop i xs)
+
+-- what is added is sound
+sound_left : (whole : List SegmentView) (left : List Stretch) (rest : List ℕ) (segments : List SegmentView) → Adding whole left rest segments → AreSound segments → AreSound whole
+sound_left whole [] rest segments h sound = subst AreSound (added whole [] rest segments refl h) sound
+sound_left whole (s ∷ ss) rest segments h sound =
+    let can = can_add whole s ss rest (take s.size rest) segments h refl in
+    sound_left whole ss (drop s.size rest) (segments ++ record { address = s.base; content = take s.size rest } ∷ []) (adds whole s ss rest (take s.size rest) (drop s.size rest) segments h refl refl)
+    (sound_push segments (record { address = s.base; content = take s.size rest }) sound (can.some, can.placed) can.apart can.room)
+
+nothing_sound : AreSound []
+nothing_sound = record { few = omega arith; placed = λ k d lt. absurd (omega arith); apart = λ i j d lt inside. absurd (omega arith) }
+
+pub cut_sound : (stretches : List Stretch) (bytes : List ℕ) → CanBeCut stretches bytes → AreSound (cut_segments stretches bytes)
+cut_sound stretches bytes h = sound_left (cut_segments stretches bytes) stretches bytes [] (begins stretches bytes [] refl h) nothing_sound
+
+-- the segments are those that were to be cut
+pub cut_shape : (stretches : List Stretch) (bytes : List ℕ) → total stretches ≡ length bytes → sized (cut_segments stretches bytes) ≡ stretches
+cut_shape [] bytes e = refl
+cut_shape (s ∷ ss) bytes e =
+    let parts : s.size + total ss ≡ length bytes = e in
+    let here : length (take s.size bytes) ≡ s.size = length-take-le s.size bytes (omega arith) in
+    ap (λ n. record { base = s.base; size = n } ∷ sized (cut_segments ss (drop s.size bytes))) here
+    ∙ ap (λ (xs : List Stretch). s ∷ xs) (cut_shape ss (drop s.size bytes) (omega (arith, length-drop s.size bytes)))

@@ -1,11 +1,9 @@
-pub mod Integers
-pub mod Names
-pub mod Items
-pub mod Chosen
 pub mod Entries
-pub mod Zeros
 pub mod Onward
 pub mod Adding
 pub mod Keeping
 pub mod Located
+pub mod Shapes
 pub mod Told
+pub mod OneChoice
+pub mod Made

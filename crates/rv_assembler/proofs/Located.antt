@@ -12,10 +12,11 @@ use Rattle.rv_assembler.specs.Placing.{total}
 use Rattle.rv_assembler.specs.Source.{cut_segments, moved}
 use Rattle.rv_assembler.specs.Relation.{HasBytes, behind}
 use Rattle.rv_assembler.specs.declared.stretch.Stretch.{Stretch}
-use Rattle.rv_assembler.specs.declared.extent.Extent.{Extent}
-use Rattle.rv_assembler.specs.declared.extent.Extent.TheVariants.{Jumps, Marks, Takes}
-use Rattle.rv_assembler.specs.declared.asm_why.AsmWhy.TheVariants.{BadOperands, OutsideMemory, Overlap, TooLarge}
-use Rattle.rv_assembler.proofs.Keeping.{cond_ok, ok_is, not_true, taken}
+use Rattle.asm_forms.specs.Operations.{taken}
+use Rattle.asm_forms.specs.declared.extent.Extent.{Extent}
+use Rattle.asm_forms.specs.declared.extent.Extent.TheVariants.{Jumps, Marks, Takes}
+use Rattle.asm_forms.specs.declared.asm_why.AsmWhy.TheVariants.{BadOperands, OutsideMemory, Overlap, TooLarge}
+use Rattle.rv_assembler.proofs.Keeping.{cond_ok, ok_is, not_true}
 
 -- ---- the place
 
@@ -46,7 +47,7 @@ laid_place (Jumps p) l after e = ap (λ (x : Laid). x.place) (sym (jumped p l af
 laid_place Marks l after e = ap (λ (x : Laid). x.place) (sym (marked l after e))
 laid_place (Takes n) l after e = ap (λ (x : Laid). x.place) (sym (took n l after e).is)
 
-ends_grown : (g : Option Stretch) (p n : ℕ) → Ends g p → (grown g p n).base + (grown g p n).size ≡ p + n
+pub ends_grown : (g : Option Stretch) (p n : ℕ) → Ends g p → (grown g p n).base + (grown g p n).size ≡ p + n
 ends_grown None p n h = refl
 ends_grown (Some s) p n h = omega (arith, h)
 
@@ -55,7 +56,7 @@ laid_ends (Jumps p) l after e h = subst (λ (x : Laid). Ends x.growing x.place) 
 laid_ends Marks l after e h = subst (λ (x : Laid). Ends x.growing x.place) (marked l after e) h
 laid_ends (Takes n) l after e h = subst (λ (x : Laid). Ends x.growing x.place) (took n l after e).is (ends_grown l.growing l.place n h)
 
-in_by : (b c : Bool) (at : ℕ) → is_in_memory (place_by b c at) ≡ true → (b || c) ≡ true
+pub in_by : (b c : Bool) (at : ℕ) → is_in_memory (place_by b c at) ≡ true → (b || c) ≡ true
 in_by true c at e = refl
 in_by false true at e = refl
 in_by false false at e = cc

@@ -8,7 +8,7 @@ use Rattle.std.proofs.lemmas.List.Sums.{fails_before_first}
 use Rattle.rv_assembler.specs.Lines.{cut, cut_there, is_feed, lines_of, without_return}
 use Rattle.rv_assembler.specs.Source.{◌>>=◌, at_line, pass, Refusal}
 use Rattle.rv_assembler.specs.Answers.{Fails}
-use Rattle.rv_assembler.specs.declared.asm_why.AsmWhy.{AsmWhy}
+use Rattle.asm_forms.specs.declared.asm_why.AsmWhy.{AsmWhy}
 use Rattle.rv_assembler.specs.declared.asm_error.AsmError.{AsmError}
 use Rattle.rv_assembler.specs.declared.asm_error.AsmError.TheVariants.{Memory, Refused}
 

@@ -1,30 +1,33 @@
 -- What both passes tell of each line.
-use Rattle.std.proofs.Common.{◌≡◌, ℕ, ◌+◌, List, [], ◌∷◌, ◌++◌, length, map, Bool, true, false, cond, Option, Some, None, Result, Ok, Err, refl, sym, ap, ◌∙◌, arith, subst, append_assoc, length-append, length-drop, take, drop, inl, inr}
-use Rattle.std.specs.Prelude.{◌&&◌, ◌⊎◌, eqb, nat_lt, option_to_list}
-use Rattle.std.proofs.lemmas.List.{append-nil, length-take-le}
+use Rattle.std.proofs.Common.{◌≡◌, ◌≢◌, ℕ, zero, suc, ◌+◌, ◌<◌, ◌≤◌, get_or, AllPairs, List, [], ◌∷◌, ◌++◌, length, map, Bool, true, false, cond, Option, Some, None, Result, Ok, Err, refl, sym, ap, ◌∙◌, arith, subst, append_assoc}
+use Rattle.std.specs.Prelude.{◌&&◌, eqb, nat_lt, option_to_list}
+use Rattle.std.proofs.lemmas.List.{append-nil}
 use Rattle.std.proofs.lemmas.Bool.Decides.{nat_tests}
 use lib.Pointwise.{pointwise}
-use Rattle.std.proofs.lemmas.List.Sums.{sum_by-cons}
-use Rattle.hart_memory.specs.Image.{SegmentView, byte_count}
-use Rattle.rv_assembler.specs.Operands.{Operands}
-use Rattle.rv_assembler.specs.Operations.{made, operation_fits, extent_of, bytes_of}
-use Rattle.rv_assembler.specs.Statements.{Task, Reading, reading}
+use Rattle.std.proofs.lemmas.List.Quantifiers.{all_pairs_push}
+use Rattle.hart_memory.specs.Image.{AreSound}
+use Rattle.asm_forms.specs.Operands.{Operands}
+use Rattle.asm_forms.specs.Operations.{made, operation_fits, extent_of, bytes_of}
+use Rattle.asm_forms.specs.Statements.{Task, Reading, reading}
 use Rattle.rv_assembler.specs.Symbols.{Symbol, address_of, defined_by, with_label}
 use Rattle.rv_assembler.specs.Laying.{Laid, laid, shut, Ends}
 use Rattle.rv_assembler.specs.Placing.{total}
 use Rattle.rv_assembler.specs.Lines.{lines_of}
 use Rattle.rv_assembler.specs.Source.{Refusal, refuse, at_line, pass, Passed, nothing_passed, laid_by, first_read, first_line, Built, nothing_built, resolved, reached, moved, entry_by, with_operation, second_task, second_by, task_in, task_of, second_line, Program, cut_segments, of_lines, assembled}
-use Rattle.rv_assembler.specs.Relation.{IsLabelled, IsEntry, IsDone, extent_by, behind, AreLines, label_in, labels_in, length_by, length_of, NamesEntry, HaveEntry, IsSource}
-use Rattle.rv_assembler.specs.declared.kind.Kind.{Kind}
-use Rattle.rv_assembler.specs.declared.kind.Kind.TheVariants.{Org, Entry, Byte, Half, Zero, Short, Pair}
-use Rattle.rv_assembler.specs.declared.operation.Operation.{Operation}
+use Rattle.rv_assembler.specs.Relation.{IsLabelled, IsEntry, IsDone, extent_by, behind, AreLines, label_in, labels_in, entry_in, entries, extents, stretches, filled, stretch_of, IsSource}
+use Rattle.asm_forms.specs.declared.kind.Kind.{Kind}
+use Rattle.asm_forms.specs.declared.kind.Kind.TheVariants.{Entry}
+use Rattle.asm_forms.specs.declared.operation.Operation.{Operation}
 use Rattle.rv_assembler.specs.declared.stretch.Stretch.{Stretch}
-use Rattle.rv_assembler.specs.declared.extent.Extent.{Extent}
-use Rattle.rv_assembler.specs.declared.extent.Extent.TheVariants.{Jumps, Marks, Takes}
-use Rattle.rv_assembler.specs.declared.asm_why.AsmWhy.{AsmWhy}
-use Rattle.rv_assembler.specs.declared.asm_why.AsmWhy.TheVariants.{BadOperands, OutOfReach, NoEntry, TooLarge}
+use Rattle.asm_forms.specs.declared.extent.Extent.{Extent}
+use Rattle.asm_forms.specs.declared.extent.Extent.TheVariants.{Jumps, Marks, Takes}
+use Rattle.asm_forms.specs.declared.asm_why.AsmWhy.{AsmWhy}
+use Rattle.asm_forms.specs.declared.asm_why.AsmWhy.TheVariants.{BadOperands, OutOfReach, NoEntry, TooLarge}
 use Rattle.rv_assembler.specs.declared.assembling.TheConstants.{MAX_SOURCE}
-use Rattle.rv_assembler.proofs.Keeping.{bind_ok, at_line_ok, ok_is, cond_ok, bytes_taken, taken, Keeps, line_keeps, passes_keep, can_be_cut, nothing_kept}
+use Rattle.asm_forms.proofs.Fitting.{bytes_taken}
+use Rattle.rv_assembler.proofs.Keeping.{bind_ok, at_line_ok, ok_is, cond_ok, Grows, Keeps, line_keeps, passes_keep, can_be_cut, nothing_kept}
+use Rattle.rv_assembler.proofs.Adding.{cut_sound, cut_shape}
+use Rattle.rv_assembler.proofs.Shapes.{HasSome, expected, line_shape, shape_at_end, count, line_counted}
 use Rattle.rv_assembler.proofs.Located.{took, jumped, marked, laid_place, laid_ends, moved_behind, Becomes, at_the_end, becomes_before, line_bytes}
 
 -- ---- symbols
@@ -36,7 +39,7 @@ both_true : (a b : Bool) → a ≡ true → b ≡ true → (a && b) ≡ true
 both_true true b e f = f
 both_true false b e f = cc
 
-same_text : (t : List ℕ) → pointwise eqb t t ≡ true
+pub same_text : (t : List ℕ) → pointwise eqb t t ≡ true
 same_text [] = refl
 same_text (b ∷ bs) = both_true (eqb b b) (pointwise eqb bs bs) (same_number b) (same_text bs)
 
@@ -62,31 +65,58 @@ address_new : (ss : List Symbol) (t : List ℕ) (a : ℕ) → address_of ss t �
 address_new [] t a e = taken_test (pointwise eqb t t) a (same_text t)
 address_new (s ∷ ss) t a e = new_by (pointwise eqb t s.name) s.address (address_of ss t) (address_of (ss ++ record { name = t; address = a } ∷ []) t) a (address_new ss t a) e
 
+none_by : (b : Bool) (x : ℕ) (r : Option ℕ) → cond b (Some x) r ≡ None → (b ≡ false) × (r ≡ None)
+none_by true x r e = cc
+none_by false x r e = (refl, e)
+
+-- a label that isn't found is none of the symbols'
+unlike : (ss : List Symbol) (t : List ℕ) → address_of ss t ≡ None → (k : ℕ) (d : List ℕ) → k < length (map (λ (s : Symbol). s.name) ss) → get_or (map (λ (s : Symbol). s.name) ss) k d ≢ t
+unlike [] t e k d lt = absurd (omega arith)
+unlike (s ∷ ss) t e zero d lt = λ same.
+    let found : pointwise eqb t s.name ≡ true = ap (λ u. pointwise eqb t u) same ∙ same_text t in
+    let missed : pointwise eqb t s.name ≡ false = (none_by (pointwise eqb t s.name) s.address (address_of ss t) e).0 in
+    true_or_false (pointwise eqb t s.name) found missed
+  where
+    true_or_false : (b : Bool) → b ≡ true → b ≡ false → ⊥
+    true_or_false true e f = cc
+    true_or_false false e f = cc
+unlike (s ∷ ss) t e (suc k) d lt = unlike ss t (none_by (pointwise eqb t s.name) s.address (address_of ss t) e).1 k d (omega arith)
+
+-- no name is there twice
+abbrev pub AreOnce : List Symbol → Type 0
+AreOnce ss = AllPairs (λ t u. t ≢ u) (map (λ (s : Symbol). s.name) ss)
+
+pub map_name : (xs ys : List Symbol) → map (λ (s : Symbol). s.name) (xs ++ ys) ≡ map (λ (s : Symbol). s.name) xs ++ map (λ (s : Symbol). s.name) ys
+map_name [] ys = refl
+map_name (x ∷ xs) ys = ap (λ ns. x.name ∷ ns) (map_name xs ys)
+
+once_more : (ss : List Symbol) (s : Symbol) → address_of ss s.name ≡ None → AreOnce ss → AreOnce (ss ++ s ∷ [])
+once_more ss s e h =
+    subst (λ (ns : List (List ℕ)). AllPairs (λ t u. t ≢ u) ns) (sym (map_name ss (s ∷ [])))
+    (all_pairs_push (λ (t u : List ℕ). t ≢ u) (map (λ (x : Symbol). x.name) ss) s.name h (unlike ss s.name e))
+
 -- what a label adds
 record Defined (label : Option (List ℕ)) (place : ℕ) (ss tt' : List Symbol) : Type 0 where
   new : List Symbol
   is : tt' ≡ ss ++ new
   names : map (λ (s : Symbol). s.name) new ≡ option_to_list label
   here : IsLabelled tt' place label
+  once : AreOnce ss → AreOnce tt'
 
 defined_some : (found : Option ℕ) (t : List ℕ) (place : ℕ) (ss after : List Symbol) → address_of ss t ≡ found → defined_by found t place ss ≡ Ok after → Defined (Some t) place ss after
 defined_some None t place ss after f e =
     let one : Symbol = record { name = t; address = place } in
     let is : ss ++ one ∷ [] ≡ after = ok_is _ after e in
-    record { new = one ∷ []; is = sym is; names = refl; here = subst (λ (x : List Symbol). address_of x t ≡ Some place) is (address_new ss t place f) }
+    record { new = one ∷ []; is = sym is; names = refl; here = subst (λ (x : List Symbol). address_of x t ≡ Some place) is (address_new ss t place f); once = λ h. subst AreOnce is (once_more ss one f h) }
 defined_some (Some a) t place ss after f e = cc
 
 defined : (label : Option (List ℕ)) (place : ℕ) (ss after : List Symbol) → with_label label place ss ≡ Ok after → Defined label place ss after
-defined None place ss after e = record { new = []; is = sym (ok_is ss after e) ∙ sym (append-nil ss); names = refl; here = tt }
+defined None place ss after e = record { new = []; is = sym (ok_is ss after e) ∙ sym (append-nil ss); names = refl; here = tt; once = λ h. subst AreOnce (ok_is ss after e) h }
 defined (Some t) place ss after e = defined_some (address_of ss t) t place ss after refl e
 
 labelled_more : (label : Option (List ℕ)) (place : ℕ) (ss more : List Symbol) → IsLabelled ss place label → IsLabelled (ss ++ more) place label
 labelled_more None place ss more h = tt
 labelled_more (Some t) place ss more h = address_more ss more t place h
-
-map_name : (xs ys : List Symbol) → map (λ (s : Symbol). s.name) (xs ++ ys) ≡ map (λ (s : Symbol). s.name) xs ++ map (λ (s : Symbol). s.name) ys
-map_name [] ys = refl
-map_name (x ∷ xs) ys = ap (λ ns. x.name ∷ ns) (map_name xs ys)
 
 -- ---- the entry
 
@@ -109,28 +139,7 @@ unfolding made extent_of
 entry_named Entry o n entry start l after e f = f (ap (λ (x : Laid). x.entered) (sym (marked l after e)))
 entry_named _ o n entry start l after e f = tt
 
--- the entry is named before, or by this line
-entry_kind : (k : Kind) (a : ℕ) (l after : Laid) → laid (extent_of k a) l ≡ Ok after → after.entered ≡ true → (l.entered ≡ true) ⊎ (k ≡ Entry)
-unfolding extent_of
-entry_kind Entry a l after e h = inr refl
-entry_kind Org a l after e h = inl (ap (λ (x : Laid). x.entered) (jumped a l after e) ∙ h)
-entry_kind Byte a l after e h = inl (ap (λ (x : Laid). x.entered) (took 1 l after e).is ∙ h)
-entry_kind Half a l after e h = inl (ap (λ (x : Laid). x.entered) (took 2 l after e).is ∙ h)
-entry_kind Zero a l after e h = inl (ap (λ (x : Laid). x.entered) (took a l after e).is ∙ h)
-entry_kind (Short row) a l after e h = inl (ap (λ (x : Laid). x.entered) (took 2 l after e).is ∙ h)
-entry_kind Pair a l after e h = inl (ap (λ (x : Laid). x.entered) (took 8 l after e).is ∙ h)
-entry_kind _ a l after e h = inl (ap (λ (x : Laid). x.entered) (took 4 l after e).is ∙ h)
-
-entry_before : (k : Option Task) (l after : Laid) → laid_by k l ≡ Ok after → after.entered ≡ true → (l.entered ≡ true) ⊎ NamesEntry k
-entry_before None l after e h = inl (ap (λ (x : Laid). x.entered) (ok_is l after e) ∙ h)
-entry_before (Some k) l after e h = entry_kind k.kind k.operands.amount l after e h
-
 -- ---- one line
-
-same_length : (e : Extent) → taken e ≡ length_by e
-same_length (Jumps p) = refl
-same_length Marks = refl
-same_length (Takes n) = refl
 
 abbrev program_of : ℕ → List Stretch → List ℕ → List Symbol → Program
 program_of start all whole symbols = record { image = record { start = start; segments = cut_segments all whole }; symbols = symbols }
@@ -197,22 +206,15 @@ tells start all whole more symbols (Some k) l after b c e f h become is sum entr
       entry = λ g. names (entered_stays (extent_of k.kind k.operands.amount) l after e g) ∙ entry_stays k.kind k.operands s.number b.entry l after e g;
     }
 
-length_behind : (symbols : List Symbol) (k : Option Task) (b c : Built) → second_by symbols b k ≡ Ok c → length c.bytes ≡ length b.bytes + length_by (extent_by k)
-length_behind symbols None b c f = ap (λ (x : Built). length x.bytes) (sym (ok_is b c f)) ∙ (let e : length b.bytes ≡ length b.bytes + 0 = omega arith in e)
-length_behind symbols (Some k) b c f =
-    let s = second symbols b c k f in
-    let o = made k.kind k.operands s.number in
-    ap (λ (x : Built). length x.bytes) (sym s.is) ∙ length-append b.bytes (bytes_of o) ∙ ap (λ n. length b.bytes + n) (bytes_taken k.kind k.operands s.number ∙ same_length (extent_of k.kind k.operands.amount))
-
-place_behind : (k : Option Task) (l after : Laid) → laid_by k l ≡ Ok after → after.place ≡ behind (extent_by k) l.place
+pub place_behind : (k : Option Task) (l after : Laid) → laid_by k l ≡ Ok after → after.place ≡ behind (extent_by k) l.place
 place_behind None l after e = ap (λ (x : Laid). x.place) (sym (ok_is l after e))
 place_behind (Some k) l after e = laid_place (extent_of k.kind k.operands.amount) l after e
 
-ends_behind : (k : Option Task) (l after : Laid) → laid_by k l ≡ Ok after → Ends l.growing l.place → Ends after.growing after.place
+pub ends_behind : (k : Option Task) (l after : Laid) → laid_by k l ≡ Ok after → Ends l.growing l.place → Ends after.growing after.place
 ends_behind None l after e h = subst (λ (x : Laid). Ends x.growing x.place) (ok_is l after e) h
 ends_behind (Some k) l after e h = laid_ends (extent_of k.kind k.operands.amount) l after e h
 
-same_behind : (symbols : List Symbol) (k : Option Task) (l after : Laid) (b c : Built) → laid_by k l ≡ Ok after → second_by symbols b k ≡ Ok c → Ends l.growing l.place → b.place ≡ l.place → c.place ≡ after.place
+pub same_behind : (symbols : List Symbol) (k : Option Task) (l after : Laid) (b c : Built) → laid_by k l ≡ Ok after → second_by symbols b k ≡ Ok c → Ends l.growing l.place → b.place ≡ l.place → c.place ≡ after.place
 same_behind symbols None l after b c e f h s = ap (λ (x : Built). x.place) (sym (ok_is b c f)) ∙ s ∙ ap (λ (x : Laid). x.place) (ok_is l after e)
 same_behind symbols (Some k) l after b c e f h s =
     let x = extent_of k.kind k.operands.amount in
@@ -251,7 +253,7 @@ first_task line r k e f = ap (λ (x : Result (Option Task) AsmWhy). task_in x) (
 
 -- ---- all lines
 
-record Told (start : ℕ) (all : List Stretch) (whole : List ℕ) (symbols : List Symbol) (s : Passed) (b : Built) (ls : List (List ℕ)) : Type 0 where
+record Told (start : ℕ) (all : List Stretch) (whole : List ℕ) (symbols : List Symbol) (entered : Bool) (s : Passed) (b : Built) (ls : List (List ℕ)) : Type 0 where
   lines : AreLines (program_of start all whole symbols) s.laying.place ls
   becomes : Becomes s.laying.growing s.laying.closed all
   more : List ℕ
@@ -260,19 +262,28 @@ record Told (start : ℕ) (all : List Stretch) (whole : List ℕ) (symbols : Lis
   defines : symbols ≡ s.symbols ++ later
   names : map (λ (x : Symbol). x.name) later ≡ labels_in ls
   entry : s.laying.entered ≡ true → start ≡ b.entry
-  long : length whole ≡ length b.bytes + length_of ls
+  once : AreOnce s.symbols → AreOnce symbols
+  counts : count s.laying.entered + entries ls ≡ count entered
+  shape : expected s.laying (extents ls) ≡ all
 
 abbrev all_of : Passed → List Stretch
 all_of t = shut t.laying.growing t.laying.closed
 
-nothing_left : (t : Passed) (c : Built) → Told c.entry (all_of t) c.bytes t.symbols t c []
-nothing_left t c = record { lines = tt; becomes = at_the_end t.laying.growing t.laying.closed; more = []; bytes = sym (append-nil c.bytes); later = []; defines = sym (append-nil t.symbols); names = refl; entry = λ g. refl; long = (let e : length c.bytes ≡ length c.bytes + 0 = omega arith in e) }
+grows_some : (g : Option Stretch) (c : List Stretch) → Grows g c → HasSome g
+grows_some None c h = tt
+grows_some (Some s) c h = h.1.some
 
-tell : (ls : List (List ℕ)) (n m : ℕ) (s t : Passed) (b c : Built) → pass first_line ls n s ≡ Ok t → pass (second_line t.symbols) ls m b ≡ Ok c → Between s.laying b → Told c.entry (all_of t) c.bytes t.symbols s b ls
+shape_before : (l : List ℕ) (ls : List (List ℕ)) (k : Option Task) (s after : Laid) (all : List Stretch) → k ≡ task_of (reading l) → laid_by k s ≡ Ok after → HasSome s.growing → expected after (extents ls) ≡ all → expected s (extents (l ∷ ls)) ≡ all
+shape_before l ls k s after all is lays some rest = ap (λ x. expected s (extent_by x ∷ extents ls)) (sym is) ∙ line_shape k s after (extents ls) lays some ∙ rest
+
+nothing_left : (t : Passed) (c : Built) → HasSome t.laying.growing → Told c.entry (all_of t) c.bytes t.symbols t.laying.entered t c []
+nothing_left t c h = record { lines = tt; becomes = at_the_end t.laying.growing t.laying.closed; more = []; bytes = sym (append-nil c.bytes); later = []; defines = sym (append-nil t.symbols); names = refl; entry = λ g. refl; once = λ o. o; counts = (let e : count t.laying.entered + 0 ≡ count t.laying.entered = omega arith in e); shape = shape_at_end t.laying.growing t.laying.closed t.laying.place h }
+
+tell : (ls : List (List ℕ)) (n m : ℕ) (s t : Passed) (b c : Built) → pass first_line ls n s ≡ Ok t → pass (second_line t.symbols) ls m b ≡ Ok c → Between s.laying b → Told c.entry (all_of t) c.bytes t.symbols t.laying.entered s b ls
 unfolding pass
 tell [] n m s t b c e f h =
-    subst (λ (x : Passed). Told c.entry (all_of t) c.bytes t.symbols x b []) (sym (ok_is s t e))
-    (subst (λ (y : Built). Told c.entry (all_of t) c.bytes t.symbols t y []) (sym (ok_is b c f)) (nothing_left t c))
+    subst (λ (x : Passed). Told c.entry (all_of t) c.bytes t.symbols t.laying.entered x b []) (sym (ok_is s t e))
+    (subst (λ (y : Built). Told c.entry (all_of t) c.bytes t.symbols t.laying.entered t y []) (sym (ok_is b c f)) (nothing_left t c (subst (λ (x : Passed). HasSome x.laying.growing) (ok_is s t e) (grows_some s.laying.growing s.laying.closed h.kept.grows))))
 tell (l ∷ ls) n m s t b c e f h =
     let p = bind_ok (at_line n (first_line s l)) (pass first_line ls (n + 1)) t e in
     let q = bind_ok (at_line m (second_line t.symbols b l)) (pass (second_line t.symbols) ls (m + 1)) c f in
@@ -304,58 +315,33 @@ tell (l ∷ ls) n m s t b c e f h =
       defines = rest.defines ∙ ap (λ (y : List Symbol). y ++ rest.later) label.is ∙ append_assoc s.symbols label.new rest.later;
       names = map_name label.new rest.later ∙ ap (λ (y : List (List ℕ)). y ++ map (λ (z : Symbol). z.name) rest.later) label.names ∙ ap (λ (y : List (List ℕ)). option_to_list x.read.label ++ y) rest.names ∙ ap (λ (r : Result Reading AsmWhy). label_in r ++ labels_in ls) (sym x.reads);
       entry = line.entry;
-      long = (
-          let more : length q.0.bytes ≡ length b.bytes + length_by (extent_by x.task) = length_behind t.symbols x.task b q.0 x.builds in
-          let after : length c.bytes ≡ length q.0.bytes + length_of ls = rest.long in
-          let same : length_by (extent_by x.task) ≡ length_by (extent_by (task_of (reading l))) = ap (λ k. length_by (extent_by k)) (first_task l x.read x.task x.reads x.asks) in
+      once = λ o. rest.once (label.once o);
+      counts = (
+          let here : count s.laying.entered + entry_in x.task ≡ count p.0.laying.entered = line_counted x.task s.laying p.0.laying x.lays in
+          let same : entry_in x.task ≡ entry_in (task_of (reading l)) = ap entry_in (first_task l x.read x.task x.reads x.asks) in
+          let after : count p.0.laying.entered + entries ls ≡ count t.laying.entered = rest.counts in
           omega arith
           );
+      shape = shape_before l ls x.task s.laying p.0.laying (all_of t) (first_task l x.read x.task x.reads x.asks) x.lays (grows_some s.laying.growing s.laying.closed h.kept.grows) rest.shape;
     }
 
--- a line names the entry where none did before
-enters : (ls : List (List ℕ)) (n m : ℕ) (s t : Passed) (symbols : List Symbol) (b c : Built) → pass first_line ls n s ≡ Ok t → pass (second_line symbols) ls m b ≡ Ok c → t.laying.entered ≡ true → (s.laying.entered ≡ true) ⊎ HaveEntry ls
-unfolding pass
-enters [] n m s t symbols b c e f h = inl (ap (λ (x : Passed). x.laying.entered) (ok_is s t e) ∙ h)
-enters (l ∷ ls) n m s t symbols b c e f h =
-    let p = bind_ok (at_line n (first_line s l)) (pass first_line ls (n + 1)) t e in
-    let q = bind_ok (at_line m (second_line symbols b l)) (pass (second_line symbols) ls (m + 1)) c f in
-    let x = first l s p.0 symbols b q.0 (at_line_ok n (first_line s l) p.0 p.1) (at_line_ok m (second_line symbols b l) q.0 q.1) in
-    here_or l ls s.laying p.0.laying x.task (first_task l x.read x.task x.reads x.asks) x.lays (enters ls (n + 1) (m + 1) p.0 t symbols q.0 c p.2 q.2 h)
-  where
-    or_line : (l : List ℕ) (ls : List (List ℕ)) (s : Laid) (k : Option Task) → k ≡ task_of (reading l) → (s.entered ≡ true) ⊎ NamesEntry k → (s.entered ≡ true) ⊎ HaveEntry (l ∷ ls)
-    or_line l ls s k e (inl h) = inl h
-    or_line l ls s k e (inr h) = inr (inl (subst (λ (y : Option Task). NamesEntry y) e h))
-
-    here_or : (l : List ℕ) (ls : List (List ℕ)) (s after : Laid) (k : Option Task) → k ≡ task_of (reading l) → laid_by k s ≡ Ok after → (after.entered ≡ true) ⊎ HaveEntry ls → (s.entered ≡ true) ⊎ HaveEntry (l ∷ ls)
-    here_or l ls s after k e y (inl h) = or_line l ls s k e (entry_before k s after y h)
-    here_or l ls s after k e y (inr h) = inr (inr h)
-
 -- ---- the program
-
--- each segment has all its bytes
-bytes_cut : (all : List Stretch) (whole : List ℕ) → total all ≡ length whole → byte_count (cut_segments all whole) ≡ length whole
-bytes_cut [] whole e = e
-bytes_cut (s ∷ ss) whole e =
-    let parts : s.size + total ss ≡ length whole = e in
-    let here : length (take s.size whole) ≡ s.size = length-take-le s.size whole (omega arith) in
-    let rest : byte_count (cut_segments ss (drop s.size whole)) ≡ length (drop s.size whole) = bytes_cut ss (drop s.size whole) (omega (arith, length-drop s.size whole)) in
-    let split : byte_count (cut_segments (s ∷ ss) whole) ≡ length (take s.size whole) + byte_count (cut_segments ss (drop s.size whole)) = sum_by-cons (λ (x : SegmentView). length x.content) (record { address = s.base; content = take s.size whole }) (cut_segments ss (drop s.size whole)) in
-    omega (arith, length-drop s.size whole)
 
 ended_ok : (b : Bool) (x p : Program) → cond b (Ok x) (refuse 0 NoEntry) ≡ Ok p → (b ≡ true) × (x ≡ p)
 ended_ok true x p e = (refl, ok_is x p e)
 ended_ok false x p e = cc
 
-has_entry : (ls : List (List ℕ)) → (false ≡ true) ⊎ HaveEntry ls → HaveEntry ls
-has_entry ls (inl e) = cc
-has_entry ls (inr h) = h
+nothing_once : AreOnce []
+nothing_once = λ i j d lt inside. absurd (omega arith)
 
 -- all that is told of lines
 record Whole (ls : List (List ℕ)) (p : Program) : Type 0 where
   lines : AreLines p 0 ls
   names : map (λ (s : Symbol). s.name) p.symbols ≡ labels_in ls
-  count : byte_count p.image.segments ≡ length_of ls
-  entry : HaveEntry ls
+  once : AllPairs (λ t u. t ≢ u) (labels_in ls)
+  entry : entries ls ≡ 1
+  segments : map stretch_of p.image.segments ≡ filled (stretches 0 0 (extents ls))
+  sound : AreSound p.image.segments
 
 of_lines_told : (ls : List (List ℕ)) (p : Program) → of_lines ls ≡ Ok p → Whole ls p
 of_lines_told ls p e =
@@ -363,15 +349,26 @@ of_lines_told ls p e =
     let b = bind_ok (pass (second_line a.0.symbols) ls 1 nothing_built) _ p a.2 in
     let is = ended_ok a.0.laying.entered _ p b.2 in
     let told = tell ls 1 1 nothing_passed a.0 nothing_built b.0 a.1 b.1 (record { kept = nothing_kept; ends = tt; same = refl }) in
-    let sum = (can_be_cut a.0.laying b.0.bytes (passes_keep ls 1 1 nothing_passed a.0 a.0.symbols nothing_built b.0 a.1 b.1 nothing_kept)).whole in
-    let long : length b.0.bytes ≡ 0 + length_of ls = told.long in
+    let cut = can_be_cut a.0.laying b.0.bytes (passes_keep ls 1 1 nothing_passed a.0 a.0.symbols nothing_built b.0 a.1 b.1 nothing_kept) in
+    let names : map (λ (s : Symbol). s.name) a.0.symbols ≡ labels_in ls = ap (λ (y : List Symbol). map (λ (s : Symbol). s.name) y) told.defines ∙ told.names in
+    let counts : 0 + entries ls ≡ count a.0.laying.entered = told.counts in
+    let entered : count a.0.laying.entered ≡ 1 = ap count is.0 in
     subst (λ (x : Program). Whole ls x) is.1
     (record {
       lines = told.lines;
-      names = ap (λ (y : List Symbol). map (λ (s : Symbol). s.name) y) told.defines ∙ told.names;
-      count = bytes_cut (all_of a.0) b.0.bytes sum ∙ (let n : length b.0.bytes ≡ length_of ls = omega arith in n);
-      entry = has_entry ls (enters ls 1 1 nothing_passed a.0 a.0.symbols nothing_built b.0 a.1 b.1 is.0);
+      names = names;
+      once = subst (λ (ns : List (List ℕ)). AllPairs (λ t u. t ≢ u) ns) names (told.once nothing_once);
+      entry = (let e : entries ls ≡ 1 = omega arith in e);
+      segments = cut_shape (all_of a.0) b.0.bytes cut.whole ∙ sym told.shape;
+      sound = cut_sound (all_of a.0) b.0.bytes cut;
     })
+
+short_enough : (n : ℕ) (r : Result Program Refusal) (p : Program) → cond (nat_lt MAX_SOURCE n) (refuse 0 TooLarge) r ≡ Ok p → n ≤ MAX_SOURCE
+short_enough n r p e = short_by n (nat_lt MAX_SOURCE n) r p refl e
+  where
+    short_by : (n : ℕ) (b : Bool) (r : Result Program Refusal) (p : Program) → nat_lt MAX_SOURCE n ≡ b → cond b (refuse 0 TooLarge) r ≡ Ok p → n ≤ MAX_SOURCE
+    short_by n true r p e f = cc
+    short_by n false r p e f = grind (arith, nat_tests)
 
 cond_lines : (b : Bool) (r : Result Program Refusal) (p : Program) → cond b (refuse 0 TooLarge) r ≡ Ok p → r ≡ Ok p
 cond_lines true r p e = cc
@@ -382,4 +379,12 @@ pub source_told : (source : List ℕ) (p : Program) → assembled source ≡ Ok 
 unfolding assembled
 source_told source p e =
     let told = of_lines_told (lines_of source) p (cond_lines (nat_lt MAX_SOURCE (length source)) (of_lines (lines_of source)) p e) in
-    record { lines = told.lines; names = told.names; count = told.count; entry = told.entry }
+    record {
+      short = short_enough (length source) (of_lines (lines_of source)) p e;
+      lines = told.lines;
+      names = told.names;
+      once = told.once;
+      entry = told.entry;
+      segments = told.segments;
+      sound = told.sound;
+    }

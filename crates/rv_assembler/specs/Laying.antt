@@ -6,10 +6,10 @@ use Rattle.std.specs.declared.result.Result.TheVariants.{Ok, Err}
 use Rattle.hart_memory.specs.Place.{holds}
 use Rattle.hart_memory.specs.declared.image.TheConstants.{MAX_SEGMENTS}
 use Rattle.rv_assembler.specs.declared.stretch.Stretch.{Stretch}
-use Rattle.rv_assembler.specs.declared.extent.Extent.{Extent}
-use Rattle.rv_assembler.specs.declared.extent.Extent.TheVariants.{Jumps, Marks, Takes}
-use Rattle.rv_assembler.specs.declared.asm_why.AsmWhy.{AsmWhy}
-use Rattle.rv_assembler.specs.declared.asm_why.AsmWhy.TheVariants.{BadOperands, OutsideMemory, Overlap, TooLarge}
+use Rattle.asm_forms.specs.declared.extent.Extent.{Extent}
+use Rattle.asm_forms.specs.declared.extent.Extent.TheVariants.{Jumps, Marks, Takes}
+use Rattle.asm_forms.specs.declared.asm_why.AsmWhy.{AsmWhy}
+use Rattle.asm_forms.specs.declared.asm_why.AsmWhy.TheVariants.{BadOperands, OutsideMemory, Overlap, TooLarge}
 
 -- the place of the next line, the segment that grows, those that are done, and whether the entry was named
 pub record Laid : Type 0 where

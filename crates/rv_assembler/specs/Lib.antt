@@ -1,10 +1,3 @@
-pub mod Operands
-pub mod Fields
-pub mod Sets
-pub mod Forms
-pub mod Operations
-pub mod Statements
-pub mod Seen
 pub mod Symbols
 pub mod Laying
 pub mod Stops

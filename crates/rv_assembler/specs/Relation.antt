@@ -1,19 +1,22 @@
 -- What it is for a program to be that of a source, said line by line.
-use Rattle.std.specs.Prelude.{◌≡◌, ℕ, ◌+◌, ◌-◌, ◌<◌, ◌≤◌, ◌⊎◌, true, List, [], ◌∷◌, ◌++◌, length, map, slice_get, slice_index, option_to_list, Option, Some, None}
+use Rattle.std.specs.Prelude.{◌≡◌, ◌≢◌, ℕ, ◌+◌, ◌-◌, ◌<◌, ◌≤◌, Bool, true, false, nat_lt, List, [], ◌∷◌, ◌++◌, length, map, slice_get, slice_index, option_to_list, AllPairs, Option, Some, None}
 use Rattle.std.specs.declared.result.Result.{Result}
 use Rattle.std.specs.declared.result.Result.TheVariants.{Ok, Err}
-use Rattle.hart_memory.specs.Image.{SegmentView, byte_count}
-use Rattle.rv_assembler.specs.Operations.{made, operation_fits, extent_of, bytes_of}
-use Rattle.rv_assembler.specs.Statements.{Task, Reading, reading}
+use Rattle.hart_memory.specs.Image.{SegmentView, AreSound}
+use Rattle.asm_forms.specs.Operations.{made, operation_fits, extent_of, bytes_of}
+use Rattle.asm_forms.specs.Statements.{Task, Reading, reading}
 use Rattle.rv_assembler.specs.Symbols.{Symbol, address_of}
 use Rattle.rv_assembler.specs.Lines.{lines_of}
 use Rattle.rv_assembler.specs.Source.{resolved, task_of, Program}
-use Rattle.rv_assembler.specs.declared.asm_why.AsmWhy.{AsmWhy}
-use Rattle.rv_assembler.specs.declared.kind.Kind.TheVariants.{Entry}
-use Rattle.rv_assembler.specs.declared.operation.Operation.{Operation}
-use Rattle.rv_assembler.specs.declared.operation.Operation.TheVariants.{Enters}
-use Rattle.rv_assembler.specs.declared.extent.Extent.{Extent}
-use Rattle.rv_assembler.specs.declared.extent.Extent.TheVariants.{Jumps, Marks, Takes}
+use Rattle.rv_assembler.specs.declared.stretch.Stretch.{Stretch}
+use Rattle.rv_assembler.specs.declared.assembling.TheConstants.{MAX_SOURCE}
+use Rattle.asm_forms.specs.declared.asm_why.AsmWhy.{AsmWhy}
+use Rattle.asm_forms.specs.declared.kind.Kind.{Kind}
+use Rattle.asm_forms.specs.declared.kind.Kind.TheVariants.{Entry}
+use Rattle.asm_forms.specs.declared.operation.Operation.{Operation}
+use Rattle.asm_forms.specs.declared.operation.Operation.TheVariants.{Enters}
+use Rattle.asm_forms.specs.declared.extent.Extent.{Extent}
+use Rattle.asm_forms.specs.declared.extent.Extent.TheVariants.{Jumps, Marks, Takes}
 
 -- a segment has the byte v at the address a
 pub record HasByte (segments : List SegmentView) (a v : ℕ) : Type 0 where
@@ -78,29 +81,51 @@ abbrev pub labels_in : List (List ℕ) → List (List ℕ)
 labels_in [] = []
 labels_in (l ∷ ls) = label_in (reading l) ++ labels_in ls
 
-abbrev pub length_by : Extent → ℕ
-length_by (Jumps p) = 0
-length_by Marks = 0
-length_by (Takes n) = n
+-- how often a line names the entry
+abbrev pub entry_kind : Kind → ℕ
+entry_kind Entry = 1
+entry_kind _ = 0
 
--- how many bytes lines have, each from the line alone
-abbrev pub length_of : List (List ℕ) → ℕ
-length_of [] = 0
-length_of (l ∷ ls) = length_by (extent_by (task_of (reading l))) + length_of ls
+abbrev pub entry_in : Option Task → ℕ
+entry_in None = 0
+entry_in (Some k) = entry_kind k.kind
 
-abbrev pub NamesEntry : Option Task → Type 0
-NamesEntry None = ⊥
-NamesEntry (Some k) = k.kind ≡ Entry
+-- how many of the lines are an `.entry`
+abbrev pub entries : List (List ℕ) → ℕ
+entries [] = 0
+entries (l ∷ ls) = entry_in (task_of (reading l)) + entries ls
 
--- one of the lines is an `.entry`
-abbrev pub HaveEntry : List (List ℕ) → Type 0
-HaveEntry [] = ⊥
-HaveEntry (l ∷ ls) = NamesEntry (task_of (reading l)) ⊎ HaveEntry ls
+abbrev pub extents : List (List ℕ) → List Extent
+extents ls = map (λ l. extent_by (task_of (reading l))) ls
 
--- the program is that of the source: each line stands at its place, the first of them at 0, and the symbols are the
--- lines' labels in their order; no other bytes are in the image, and a line names its entry
+-- what lies between the `.org` lines, where so many bytes from the base on lie before these lines
+abbrev pub stretches : ℕ → ℕ → List Extent → List Stretch
+stretches base size [] = record { base = base; size = size } ∷ []
+stretches base size (Jumps p ∷ es) = record { base = base; size = size } ∷ stretches p 0 es
+stretches base size (Marks ∷ es) = stretches base size es
+stretches base size (Takes n ∷ es) = stretches base (size + n) es
+
+abbrev pub filled_by : Bool → Stretch → List Stretch → List Stretch
+filled_by true s ss = s ∷ ss
+filled_by false s ss = ss
+
+-- those that have a byte
+abbrev pub filled : List Stretch → List Stretch
+filled [] = []
+filled (s ∷ ss) = filled_by (nat_lt 0 s.size) s (filled ss)
+
+-- a segment without its bytes
+abbrev pub stretch_of : SegmentView → Stretch
+stretch_of s = record { base = s.address; size = length s.content }
+
+-- the program is that of the source: each line stands at its place, the first of them at 0; the symbols are the lines'
+-- labels in their order, and none is there twice; one line names the entry; the segments are what lies between the
+-- `.org` lines and has a byte, in their order, each in one memory and none over another, and not more than an image has
 pub record IsSource (source : List ℕ) (p : Program) : Type 0 where
+  pub short : length source ≤ MAX_SOURCE
   pub lines : AreLines p 0 (lines_of source)
   pub names : map (λ s. s.name) p.symbols ≡ labels_in (lines_of source)
-  pub count : byte_count p.image.segments ≡ length_of (lines_of source)
-  pub entry : HaveEntry (lines_of source)
+  pub once : AllPairs (λ t u. t ≢ u) (labels_in (lines_of source))
+  pub entry : entries (lines_of source) ≡ 1
+  pub segments : map stretch_of p.image.segments ≡ filled (stretches 0 0 (extents (lines_of source)))
+  pub sound : AreSound p.image.segments

@@ -3,19 +3,19 @@ use Rattle.std.specs.Prelude.{ℕ, ◌+◌, ◌-◌, ◌%◌, ◌^◌, nat_lt, c
 use Rattle.std.specs.declared.result.Result.{Result}
 use Rattle.std.specs.declared.result.Result.TheVariants.{Ok, Err}
 use Rattle.hart_memory.specs.Image.{SegmentView, ImageView}
-use Rattle.rv_assembler.specs.Operands.{Number, Given, Absolute, Near, NearLabel}
-use Rattle.rv_assembler.specs.Operations.{made, operation_fits, extent_of, bytes_of}
-use Rattle.rv_assembler.specs.Statements.{Task, Reading, reading}
+use Rattle.asm_forms.specs.Operands.{Number, Given, Absolute, Near, NearLabel}
+use Rattle.asm_forms.specs.Operations.{made, operation_fits, extent_of, bytes_of}
+use Rattle.asm_forms.specs.Statements.{Task, Reading, reading}
 use Rattle.rv_assembler.specs.Symbols.{Symbol, address_of, with_label}
 use Rattle.rv_assembler.specs.Laying.{Laid, nothing_laid, laid, shut}
 use Rattle.rv_assembler.specs.Lines.{lines_of}
-use Rattle.rv_assembler.specs.declared.operation.Operation.{Operation}
-use Rattle.rv_assembler.specs.declared.operation.Operation.TheVariants.{Enters}
+use Rattle.asm_forms.specs.declared.operation.Operation.{Operation}
+use Rattle.asm_forms.specs.declared.operation.Operation.TheVariants.{Enters}
 use Rattle.rv_assembler.specs.declared.stretch.Stretch.{Stretch}
-use Rattle.rv_assembler.specs.declared.extent.Extent.{Extent}
-use Rattle.rv_assembler.specs.declared.extent.Extent.TheVariants.{Jumps, Marks, Takes}
-use Rattle.rv_assembler.specs.declared.asm_why.AsmWhy.{AsmWhy}
-use Rattle.rv_assembler.specs.declared.asm_why.AsmWhy.TheVariants.{UnknownLabel, OutOfReach, NoEntry, TooLarge}
+use Rattle.asm_forms.specs.declared.extent.Extent.{Extent}
+use Rattle.asm_forms.specs.declared.extent.Extent.TheVariants.{Jumps, Marks, Takes}
+use Rattle.asm_forms.specs.declared.asm_why.AsmWhy.{AsmWhy}
+use Rattle.asm_forms.specs.declared.asm_why.AsmWhy.TheVariants.{UnknownLabel, OutOfReach, NoEntry, TooLarge}
 use Rattle.rv_assembler.specs.declared.assembling.TheConstants.{MAX_SOURCE}
 
 infixl 10 ◌>>=◌

@@ -1,7 +1,7 @@
 // Why a source isn't assembled.
 ghost use Rattle.std.specs.Prelude.{◌≡◌};
 
-use crate::asm_why::AsmWhy;
+use asm_forms::AsmWhy;
 use thiserror::Error;
 
 /// The first refusal with its line, counted from 1; or memory was wanting.

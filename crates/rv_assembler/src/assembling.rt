@@ -1,12 +1,11 @@
 // From a source to an image.
-ghost use Rattle.std.specs.Prelude.{◌≡◌, ◌≤◌, ◌+◌, ◌^◌, ◌<◌, length, OnOk};
+ghost use Rattle.std.specs.Prelude.{◌≡◌, ◌≤◌, ◌+◌, ◌^◌, ◌<◌, length, IfOk};
 ghost use Rattle.rv_assembler.specs.Lines.{lines_of, without_return};
-ghost use Rattle.rv_assembler.specs.Source.{at_line, first_line, second_line, pass, assembled, nothing_passed, nothing_built, image_of};
+ghost use Rattle.rv_assembler.specs.Source.{at_line, first_line, second_line, pass, assembled};
 ghost use Rattle.rv_assembler.specs.Answers.{BecomesAt, Gives};
-ghost use Rattle.rv_assembler.specs.Placing.{CanBeCut};
+ghost use Rattle.rv_assembler.specs.Relation.{IsSource};
 
 use crate::asm_error::AsmError;
-use crate::asm_why::AsmWhy;
 use crate::assembled::Assembled;
 use crate::building::Building;
 use crate::cutting::image_of;
@@ -15,6 +14,7 @@ use crate::lines::{cut_line, without_return};
 use crate::passing::pass_line;
 use crate::stop::Stop;
 use crate::symbols::Symbols;
+use asm_forms::AsmWhy;
 use std::alloc::Global;
 
 /// The greatest length of a source.
@@ -98,7 +98,8 @@ fn second_pass(source: &[u8], symbols: &Symbols, building: &mut Building) -> Res
 /// the source is too long, or no line names the entry.
 #[tactic(auto, using(std::proofs::lemmas::Bool::Decides::nat_tests), unfolding(crate::specs::Source::assembled))]
 pub fn assemble(alloc: Global, source: &[u8]) -> Result<Assembled, AsmError>
-    ensures { Gives result (assembled source.now) }
+    ensures answer { Gives result (assembled source.now) }
+    ensures source { IfOk result (λ a. IsSource source.now (record { image = a.image; symbols = a.symbols })) }
 {
     if source.len() > MAX_SOURCE {
         return Err(AsmError::Refused {

@@ -1,21 +1,16 @@
 // The second pass: bytes.
 ghost use Rattle.std.specs.Prelude.{◌≡◌};
 ghost use Rattle.rv_assembler.specs.Symbols.{address_of};
-ghost use Rattle.rv_assembler.specs.Source.{nothing_built, resolved, moved, entry_by, second_task, second_by, second_line, task_of, distance, known, known_near};
-ghost use Rattle.rv_assembler.specs.Seen.{seen_number, seen_task, seen_reading, seen_task_option};
+ghost use Rattle.rv_assembler.specs.Source.{nothing_built, resolved, moved, entry_by, second_task, second_line, task_of, distance, known, known_near};
+ghost use Rattle.asm_forms.specs.Seen.{seen_number, seen_task, seen_reading, seen_task_option};
 ghost use Rattle.rv_assembler.specs.Stops.{Becomes};
 
-use crate::asm_why::AsmWhy;
-use crate::bytes::push_operation;
-use crate::extent::Extent;
-use crate::making::{extent, is_fit, operation};
-use crate::number::Number;
-use crate::operation::Operation;
-use crate::read::Read;
-use crate::statements::read_line;
 use crate::stop::Stop;
 use crate::symbols::Symbols;
-use crate::task::Task;
+use asm_forms::{
+    AsmWhy, Extent, Number, Operation, Read, Task, extent_of, is_fit, operation_of, push_operation,
+    read_line,
+};
 use std::alloc::Global;
 use std::marker::Model;
 
@@ -124,12 +119,12 @@ impl Building {
             Ok(number) => number,
             Err(why) => return Err(Stop::Refused(why)),
         };
-        let made = operation(task.kind, task.operands, number);
+        let made = operation_of(task.kind, task.operands, number);
         if !is_fit(&made) {
             return Err(Stop::Refused(AsmWhy::OutOfReach));
         }
         push_operation(&mut self.bytes, &made)?;
-        self.place = moved(extent(task.kind, task.operands.amount), self.place);
+        self.place = moved(extent_of(task.kind, task.operands.amount), self.place);
         self.entry = entry_by(&made, self.entry);
         Ok(())
     }

@@ -3,8 +3,10 @@ ghost use Rattle.std.specs.Prelude.{◌≡◌, ℕ, List, Ok};
 ghost use Rattle.rv_assembler.specs.Source.{Program, assembled};
 ghost use Rattle.rv_assembler.specs.Relation.{IsSource};
 
-/// Each line of an assembled source stands at its place: the last `.org` before it plus the lengths since. Its label
-/// is a symbol with that address, and the bytes that spell its instruction stand there in the image.
+/// What `assemble` gives is a program of the source, and a program of the source is what `assemble` gives: each line
+/// stands at its place, the last `.org` before it plus the lengths since; its label is a symbol with that address, and
+/// the bytes that spell its instruction stand there in the image.
 pub fn each_line_stands_at_its_place()
-    ensures { (source : List ℕ) (p : Program) → assembled source ≡ Ok p → IsSource source p }
+    ensures told { (source : List ℕ) (p : Program) → assembled source ≡ Ok p → IsSource source p }
+    ensures one { (source : List ℕ) (p : Program) → IsSource source p → assembled source ≡ Ok p }
 {}

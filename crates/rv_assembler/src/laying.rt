@@ -3,10 +3,9 @@ ghost use Rattle.std.specs.Prelude.{◌≡◌, not, IfOk};
 ghost use Rattle.rv_assembler.specs.Laying.{laid, nothing_laid, overlaps, are_apart, shut};
 ghost use Rattle.rv_assembler.specs.Stops.{Becomes};
 
-use crate::asm_why::AsmWhy;
-use crate::extent::Extent;
 use crate::stop::Stop;
 use crate::stretch::Stretch;
+use asm_forms::{AsmWhy, Extent};
 use hart_memory::{MAX_SEGMENTS, place_of};
 use hart_words::WantOfMemory;
 use std::alloc::Global;

@@ -2,16 +2,13 @@
 ghost use Rattle.std.specs.Prelude.{◌≡◌, option_map};
 ghost use Rattle.rv_assembler.specs.Symbols.{with_label};
 ghost use Rattle.rv_assembler.specs.Source.{first_line, laid_by};
-ghost use Rattle.rv_assembler.specs.Seen.{seen_task_option};
+ghost use Rattle.asm_forms.specs.Seen.{seen_task_option};
 ghost use Rattle.rv_assembler.specs.Stops.{Becomes};
 
-use crate::asm_why::AsmWhy;
 use crate::laying::Laying;
-use crate::making::extent;
-use crate::statements::read_line;
 use crate::stop::Stop;
 use crate::symbols::Symbols;
-use crate::task::Task;
+use asm_forms::{AsmWhy, Task, extent_of, read_line};
 use std::alloc::Global;
 
 fn define_label(
@@ -38,7 +35,7 @@ fn lay_task(laying: &mut Laying, task: Option<Task>) -> Result<(), Stop>
     ensures { Becomes result laying.new (laid_by (seen_task_option task.entry) laying.old) }
 {
     match task {
-        Some(task) => laying.lay(extent(task.kind, task.operands.amount)),
+        Some(task) => laying.lay(extent_of(task.kind, task.operands.amount)),
         None => Ok(()),
     }
 }

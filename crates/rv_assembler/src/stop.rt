@@ -2,7 +2,7 @@
 ghost use Rattle.std.specs.Prelude.{◌≡◌};
 ghost use Rattle.rv_assembler.specs.declared.stop.Stop.TheVariants.{Memory};
 
-use crate::asm_why::AsmWhy;
+use asm_forms::AsmWhy;
 use hart_words::WantOfMemory;
 use std::alloc::{AllocError, AllocFailed};
 

@@ -1,6 +1,0 @@
-use Rattle.std.proofs.Common.{◌≡◌, ◌++◌}
-use Rattle.hart_memory.specs.Memory.{zeros}
-use Rattle.rv_assembler.proofs.bytes.push_zeros.Given as goal
-
-abbrev pub invariant-loop : goal.invariant-loop
-invariant-loop l = l.bytes.items ≡ l.initial.bytes.items ++ zeros l.counter
