@@ -99,19 +99,19 @@ fn assemble_file<F: Shelf, W: Sink>(
 // Fetches the image and lists it.
 fn disassemble_file<F: Shelf, W: Sink>(
     alloc: Global,
-    order: &DisassembleOrder<'_>,
+    disassembly: &DisassembleOrder<'_>,
     shelf: &mut F,
     out: &mut W,
 ) -> Status
-    ensures { Follows result (disassemble_plan (view_disassemble order.now)) (F.told shelf.old) (F.told shelf.new) (W.told out.old) (W.told out.new) }
+    ensures { Follows result (disassemble_plan (view_disassemble disassembly.now)) (F.told shelf.old) (F.told shelf.new) (W.told out.old) (W.told out.new) }
 {
-    match shelf.fetch(alloc, order.image, IMAGE_LIMIT) {
+    match shelf.fetch(alloc, disassembly.image, IMAGE_LIMIT) {
         Ok(bytes) => match checked_image(alloc, &bytes) {
             Ok(image) => write_listing(alloc, &image, out),
             Err(Stop::Refused(refusal)) => end_refusal(refusal, out),
             Err(Stop::Memory) => Status::Memory,
         },
-        Err(fault) => end_fault(fault, order.image, out),
+        Err(fault) => end_fault(fault, disassembly.image, out),
     }
 }
 

@@ -52,7 +52,12 @@ fn images_without_a_source(rt: HostRuntime) -> Result<(), Fail> {
             b"refused image OutsideMemory 12\n",
         ),
         (None, NEVER, Status::Absent, b"absent i.img\n"),
-        (Some(&HALTS), 1, Status::ShelfFailed, b"shelf failed i.img\n"),
+        (
+            Some(&HALTS),
+            1,
+            Status::ShelfFailed,
+            b"shelf failed i.img\n",
+        ),
     ];
     for (image, fetch, status, text) in cases {
         let case = Case {

@@ -13,7 +13,7 @@ returns-in-Ok-checked_image g c =
     let bytes = c.in-Ok.bytes.items in
     let shelf' = g.F.Shelf.told c.fetch.new.self in
     let stage : image_stage bytes ≡ Ok c.in-Ok-checked_image.image = rw c.deref.ensures.value at c.in-Ok-checked_image.ensures in
-    let fetch : Fetches c.args.order.now.image.now image_limit (g.F.Shelf.told c.args.shelf.now) shelf' (Ok bytes) =
+    let fetch : Fetches c.args.disassembly.now.image.now image_limit (g.F.Shelf.told c.args.shelf.now) shelf' (Ok bytes) =
     record { counts = c.in-Ok.ensures.counts; file = c.in-Ok.ensures.bytes; kept = c.in-Ok.ensures.kept; steady = c.in-Ok.ensures.steady } in
     given _ image_limit _ _ shelf' _ bytes fetch (goes_on refusal_line (image_stage bytes) (λ image. Makes (listing_due image)) c.in-Ok-checked_image.image shelf' _ stage (makes shelf' c.write_listing.ensures))
 
@@ -22,7 +22,7 @@ returns-in-Err-Refused g c =
     let bytes = c.in-Ok.bytes.items in
     let shelf' = g.F.Shelf.told c.fetch.new.self in
     let stage : image_stage bytes ≡ Err c.in-Err-Refused.refusal = rw c.deref.ensures.value at (rw c.in-Err-Refused.field-0-is at c.in-Err-Refused.ensures) in
-    let fetch : Fetches c.args.order.now.image.now image_limit (g.F.Shelf.told c.args.shelf.now) shelf' (Ok bytes) =
+    let fetch : Fetches c.args.disassembly.now.image.now image_limit (g.F.Shelf.told c.args.shelf.now) shelf' (Ok bytes) =
     record { counts = c.in-Ok.ensures.counts; file = c.in-Ok.ensures.bytes; kept = c.in-Ok.ensures.kept; steady = c.in-Ok.ensures.steady } in
     given _ image_limit _ _ shelf' _ bytes fetch (refused refusal_line (image_stage bytes) (λ image. Makes (listing_due image)) c.in-Err-Refused.refusal shelf' stage (rw c.in-Err-Refused.refusal-is at c.end_refusal.ensures))
 
