@@ -134,6 +134,7 @@ fn a_segment_too_many(rt: HostRuntime) -> Result<(), Fail> {
     )
 }
 
+// A source that is one comment.
 #[test]
 fn a_source_of_the_limit_and_one_byte_more(rt: HostRuntime) -> Result<(), Fail> {
     let cases: [(usize, &[u8]); 2] = [
@@ -141,7 +142,7 @@ fn a_source_of_the_limit_and_one_byte_more(rt: HostRuntime) -> Result<(), Fail> 
         (2_097_153, b"refused source TooLarge\n"),
     ];
     for (len, text) in cases {
-        let source = vec![in rt.alloc(); b'\n'; len]?;
+        let source = vec![in rt.alloc(); b'#'; len]?;
         answers(
             &rt,
             rt.alloc(),
