@@ -4,7 +4,7 @@ use Rattle.board_outside.specs.Shelf.{ShelfView}
 use Rattle.board_outside.specs.Sink.{SinkView}
 use Rattle.hart_memory.specs.Image.{ImageView}
 use Rattle.hart_board.specs.declared.event.Event.{Event}
-use Rattle.hart_board.specs.declared.run_end.RunEnd.TheVariants.{BudgetSpent as budget_spent, VectorFault as vector_fault}
+use Rattle.hart_board.specs.declared.run_end.RunEnd.TheVariants.{Halted as halted, BudgetSpent as budget_spent, VectorFault as vector_fault}
 use Rattle.tool_frame.specs.Due.{Due, usage_due}
 use Rattle.tool_frame.specs.Plan.{Makes}
 use Rattle.tool_frame.specs.Answers.{Passes, Reaches, Follows, Misuses}
@@ -18,7 +18,7 @@ use Rattle.clic_tool.specs.Stages.{image_limit, image_stage, scenario_limit, sce
 use Rattle.clic_tool.specs.Due.{run_due, run_made, status_of, plan_of, run_plan, scenario_plan, assemble_plan, program_due, disassemble_plan, listing_due}
 use Rattle.clic_tool.specs.Causes.{PassesFiles, RanTo}
 use Rattle.clic_tool.proofs.Plans.{run_status, plan_no_usage}
-use Rattle.clic_tool.proofs.RunEnds.{is_budget_spent, is_vector_fault}
+use Rattle.clic_tool.proofs.RunEnds.{is_halted, is_budget_spent, is_vector_fault}
 
 -- the run was made, and ended with that status
 record RanSo (order : Option Order) (shelf shelf' : ShelfView) (s : Status) : Type 0 where
@@ -65,6 +65,19 @@ order_ran None shelf shelf' due s reached e h no_done no_use = absurd (no_use (s
 order_ran (Some (Runs run)) shelf shelf' due s reached e h no_done no_use = run_ran run shelf shelf' due s reached e h
 order_ran (Some (Assembles words)) shelf shelf' due s reached e h no_done no_use = absurd (no_done (assembled_done words shelf shelf' due s reached e h))
 order_ran (Some (Disassembles words)) shelf shelf' due s reached e h no_done no_use = absurd (no_done (listed_done words shelf shelf' due s reached e h))
+
+-- a run that is done
+halted_at : (order : Option Order) (run : RunWords) (shelf shelf' : ShelfView) (due : Due) → order ≡ Some (Runs run) → Reaches (plan_of order) shelf shelf' due → due.status ≡ Done → RanSo order shelf shelf' Done
+halted_at None run shelf shelf' due is reached e = cc
+halted_at (Some (Runs r)) run shelf shelf' due is reached e = run_ran r shelf shelf' due Done reached e tt
+halted_at (Some (Assembles words)) run shelf shelf' due is reached e = cc
+halted_at (Some (Disassembles words)) run shelf shelf' due is reached e = cc
+
+pub halted_cause : (order : Option Order) (status : Status) (shelf shelf' : ShelfView) (sink sink' : SinkView) → Follows status (plan_of order) shelf shelf' sink sink' → (run : RunWords) → order ≡ Some (Runs run) → status ≡ Done → RanTo (λ end. (code : ℕ) × (steps : ℕ) × (end ≡ halted code steps)) order shelf shelf'
+halted_cause order status shelf shelf' sink sink' follows run is e =
+    let all = settled (plan_of order) Done status shelf shelf' sink sink' follows e (λ c. cc) (λ c. cc) in
+    let ran = halted_at order run shelf shelf' all.due is all.reached all.due_status in
+    record { run = ran.run; is_run = ran.is_run; image = ran.image; events = ran.events; files = ran.files; end = is_halted (run_made ran.image ran.events ran.run.bound_is).end ran.end }
 
 pub budget_cause : (order : Option Order) (status : Status) (shelf shelf' : ShelfView) (sink sink' : SinkView) → Follows status (plan_of order) shelf shelf' sink sink' → status ≡ BudgetSpent → RanTo (λ end. end ≡ budget_spent) order shelf shelf'
 budget_cause order status shelf shelf' sink sink' follows e =

@@ -14,7 +14,7 @@ use Rattle.hart_board.specs.declared.run_end.RunEnd.TheVariants.{Halted, BudgetS
 use Rattle.clic_tool.specs.Due.{status_of}
 use Rattle.tool_frame.specs.Answers.{Ends}
 use Rattle.tool_frame.specs.declared.status.Status.{Status}
-use Rattle.tool_frame.specs.declared.status.Status.TheVariants.{BudgetSpent, Usage, VectorFault}
+use Rattle.tool_frame.specs.declared.status.Status.TheVariants.{Done, BudgetSpent, Usage, VectorFault}
 use Rattle.tool_frame.proofs.Causes.{is_end}
 
 -- a run's own end is never a sink's failure
@@ -55,6 +55,12 @@ end_is_no_usage (Halted code steps) e = cc
 end_is_no_usage budget_spent e = cc
 end_is_no_usage (vector_fault id steps) e = cc
 end_is_no_usage sink_failed e = cc
+
+pub is_halted : (end : RunEnd) → status_of end ≡ Done → (code : ℕ) × (steps : ℕ) × (end ≡ Halted code steps)
+is_halted (Halted code steps) e = (code, steps, refl)
+is_halted budget_spent e = cc
+is_halted (vector_fault id steps) e = cc
+is_halted sink_failed e = cc
 
 pub is_budget_spent : (end : RunEnd) → status_of end ≡ BudgetSpent → end ≡ budget_spent
 is_budget_spent (Halted code steps) e = cc

@@ -9,8 +9,8 @@ use Rattle.rv_assembler.specs.Source.{Program, Refusal as SourceFault, assembled
 use Rattle.rv_assembler.specs.declared.assembled.Assembled.{Assembled}
 use Rattle.clic_tool.specs.declared.refusal.Refusal.{Refusal}
 use Rattle.clic_tool.specs.declared.refusal.Refusal.TheVariants.{ImageTooLarge, BadImage, ScenarioTooLarge, BadScenario, SourceTooLarge, BadSource}
-use Rattle.clic_tool.specs.declared.refusal.Stop.{Stop}
-use Rattle.clic_tool.specs.declared.refusal.Stop.TheVariants.{Memory, Refused}
+use Rattle.clic_tool.specs.declared.stop.Stop.{Stop}
+use Rattle.clic_tool.specs.declared.stop.Stop.TheVariants.{Memory, Refused}
 
 -- an image file has at most so many bytes
 abbrev pub image_limit : ℕ

@@ -2,12 +2,12 @@
 ghost use Rattle.std.specs.Prelude.{◌≡◌, ℕ, ◌<◌, true, [], None, Some, IfSome};
 ghost use Rattle.board_outside.specs.Counts.{Rose};
 ghost use Rattle.board_outside.specs.Sink.{Writes};
-ghost use Rattle.hart_board.specs.declared.run_end.RunEnd.TheVariants.{BudgetSpent, VectorFault};
+ghost use Rattle.hart_board.specs.declared.run_end.RunEnd.TheVariants.{Halted, BudgetSpent, VectorFault};
 ghost use Rattle.tool_frame.specs.Due.{refused_due};
 ghost use Rattle.tool_frame.specs.Plan.{due_of};
 ghost use Rattle.tool_frame.specs.Answers.{Ends, Follows, Misuses, IsCalm, HasDone, IsReady, Succeeds};
 ghost use Rattle.tool_frame.specs.Causes.{NoneRose, AtFile, IsAbsentFile, IsFailedFile, IsRefusedFile, StopsShort};
-ghost use Rattle.clic_tool.specs.Order.{order_of};
+ghost use Rattle.clic_tool.specs.Order.{RunWords, Runs, order_of};
 ghost use Rattle.clic_tool.specs.View.{view, view_run, view_assemble, view_disassemble};
 ghost use Rattle.clic_tool.specs.Lines.{refusal_line};
 ghost use Rattle.clic_tool.specs.Due.{plan_of, run_plan, scenario_plan, assemble_plan, disassemble_plan};
@@ -19,12 +19,13 @@ use crate::disassemble_order::DisassembleOrder;
 use crate::disassembling::write_listing;
 use crate::order::Order;
 use crate::order_reading::read_order;
-use crate::refusal::{Refusal, Stop};
+use crate::refusal::Refusal;
 use crate::run_order::RunOrder;
 use crate::running::run_image;
 use crate::stages::{
     IMAGE_LIMIT, SCENARIO_LIMIT, SOURCE_LIMIT, checked_events, checked_image, checked_source,
 };
+use crate::stop::Stop;
 use crate::writing::put_refusal;
 use board_outside::{Shelf, Sink, Words};
 use hart_memory::Image;
@@ -157,6 +158,7 @@ pub fn clic_main<F: Shelf, W: Sink>(
 
     // Each status comes only for its cause. Memory is free, and then nothing is written.
     ensures status_done { result ≡ Status.Done → NoneRose (F.told shelf.old) (F.told shelf.new) (W.told out.old) (W.told out.new) }
+    ensures status_done_halted { (run : RunWords) → order_of words.now ≡ Some (Runs run) → result ≡ Status.Done → RanTo (λ end. (code : ℕ) × (steps : ℕ) × (end ≡ Halted code steps)) (order_of words.now) (F.told shelf.old) (F.told shelf.new) }
     ensures status_budget_spent { result ≡ Status.BudgetSpent → RanTo (λ end. end ≡ BudgetSpent) (order_of words.now) (F.told shelf.old) (F.told shelf.new) }
     ensures status_usage { result ≡ Status.Usage → order_of words.now ≡ None }
     ensures status_absent { result ≡ Status.Absent → AtFile (IsAbsentFile (W.told out.old) (W.told out.new)) (plan_of (order_of words.now)) (F.told shelf.old) (F.told shelf.new) }

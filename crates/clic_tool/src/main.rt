@@ -33,6 +33,7 @@ mod running;
 #[cfg(test)]
 mod sink_tests;
 mod stages;
+mod stop;
 #[cfg(test)]
 mod tests;
 mod writing;

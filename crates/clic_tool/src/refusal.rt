@@ -18,10 +18,3 @@ pub enum Refusal {
     /// The source file's first fault, and its line, counted from 1; or line 0 where it names no entry.
     BadSource { line: u32, why: AsmWhy },
 }
-
-/// Why a file wasn't passed.
-#[derive(Clone, Copy, Debug, PartialEq, Eq, Drop)]
-pub enum Stop {
-    Memory,
-    Refused(Refusal),
-}

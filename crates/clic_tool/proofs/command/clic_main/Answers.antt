@@ -4,7 +4,7 @@ use Rattle.tool_frame.proofs.Calm.{calm_done}
 use Rattle.tool_frame.proofs.Complete.{complete}
 use Rattle.tool_frame.proofs.Causes.{done_cause, absent_cause, failed_cause, refused_cause, sink_cause, memory_cause, stops_short, shelf_faults, shelf_absences}
 use Rattle.clic_tool.proofs.Plans.{plan_fronts, plan_ends, plan_begins}
-use Rattle.clic_tool.proofs.Causes.{of_misuse, budget_cause, vector_cause, usage_cause}
+use Rattle.clic_tool.proofs.Causes.{of_misuse, halted_cause, budget_cause, vector_cause, usage_cause}
 use Rattle.clic_tool.proofs.command.clic_main.Goals as goal
 
 -- each clause follows from what was done
@@ -26,6 +26,7 @@ returns g c =
       due = calm_done status plan shelf shelf' sink sink' fronts done;
       complete = complete status plan shelf shelf' sink sink' fronts done;
       status_done = done_cause plan status shelf shelf' sink sink' done;
+      status_done_halted = halted_cause order status shelf shelf' sink sink' done;
       status_budget_spent = budget_cause order status shelf shelf' sink sink' done;
       status_usage = usage_cause order status shelf shelf' sink sink' done;
       status_absent = absent_cause plan status shelf shelf' sink sink' ends done;
