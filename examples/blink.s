@@ -2,9 +2,10 @@
 #
 #     ./clic_tool run examples/blink.img examples/blink.txt 1000 --trace
 #
-# writes blink.report: the lines with q are the four entries of the handler, for input 18. Each line here has
-# its word in blink.img, from address 0 on.
+# writes blink.report: the lines with q are the four entries of the handler, for input 18. blink.img is what
+# `./clic_tool asm examples/blink.s` writes: each line has its word in it, from address 0 on.
 
+.entry 0
 lui  s0, 0x10001                  # 10001437  the pins
 lui  s1, 0x10002                  # 100024B7  the ticker, whose line is input 18
 lui  s2, 0x10003                  # 10003937  the halter

@@ -2,9 +2,10 @@
 #
 #     ./clic_tool run examples/echo.img examples/echo.txt 1000
 #
-# writes echo.report: three bytes were sent, 48 69 2E, which are "Hi.". Each line has its word in echo.img,
-# from address 0 on.
+# writes echo.report: three bytes were sent, 48 69 2E, which are "Hi.". echo.img is what `./clic_tool asm
+# examples/echo.s` writes: each line has its word in it, from address 0 on.
 
+.entry 0
 lui  s0, 0x10000                  # 10000437  the serial port
 lui  s1, 0x10003                  # 100034B7  the halter
 addi s2, zero, 46                 # 02E00913  a full stop

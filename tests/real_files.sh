@@ -14,6 +14,9 @@ cp "$top/examples/first.img" "a name.img"
 printf '5 line 16 1\n' >bad.txt
 printf 'XXXX' >bad.img
 head -c 262145 /dev/zero >large.img
+printf '.entry b\n.org 8\nb: nop # \300\n.org 0\na: nop\n' >two.s
+printf '.entry 0\nadi a0, zero, 5\n' >bad.s
+head -c 2097153 /dev/zero >large.s
 "$top/clic_tool" >usage.txt 2>/dev/null
 
 fail() {
@@ -41,6 +44,16 @@ answers 5 'refused image BadMagic 0\n' run bad.img no.txt 10
 answers 5 'refused scenario BadLine 1\n' run first.img bad.txt 10
 answers 5 'refused image TooLarge\n' run large.img empty.txt 10
 answers 2 'usage: clic_tool asm | disasm | run | chain | monitor | gen\n' run first.img empty.txt
+
+answers 0 '00000008 b\n00000000 a\n' asm two.s --symbols
+answers 0 'CLC1\0010\0\0\0\002\0\0\0\0010\0\0\0\004\0\0\0\023\0\0\0\0\0\0\0\004\0\0\0\023\0\0\0' asm two.s
+answers 3 'absent no.s\n' asm no.s
+answers 4 'shelf failed folder.img\n' asm folder.img
+answers 5 'refused source UnknownMnemonic 2\n' asm bad.s
+answers 5 'refused source TooLarge\n' asm large.s
+answers 2 'usage: clic_tool asm | disasm | run | chain | monitor | gen\n' asm two.s --trace
+answers 3 'absent no.img\n' disasm no.img
+answers 5 'refused image BadMagic 0\n' disasm bad.img
 
 # A name with a space.
 "$top/clic_tool" run "a name.img" empty.txt 100 >out 2>err || fail "a name with a space: status $?"

@@ -1,18 +1,18 @@
 #!/bin/sh
-# Runs the examples, and small programs whose whole text was worked out by hand, and compares all that they
-# write, and the status.
+# Assembles and runs the examples, and runs small programs whose whole text was worked out by hand, and compares all
+# that is written, and the status. Where there is a GNU `as` for RISC-V, `asm` is compared with it.
 top=$(cd "$(dirname "$0")/.." && pwd)
 command -v rt >/dev/null || { echo "texts: skipped, since there is no rt"; exit 0; }
 written=$(mktemp)
 trap 'rm -f "$written"' EXIT
 cd "$top" || exit 1
 
-# The status, the text, and the words after `run`.
+# The status, the text, and the words of the command.
 writes() {
     status=$1
     text=$2
     shift 2
-    ./clic_tool run "$@" >"$written"
+    ./clic_tool "$@" >"$written"
     given=$?
     if [ "$given" -ne "$status" ]; then
         echo "texts: $text: status $given in place of $status" >&2
@@ -26,12 +26,24 @@ row() {
     status=$1
     name=tests/rows/$2
     shift 2
-    writes "$status" "$name.report" "$name.img" "$name.txt" "$@"
+    writes "$status" "$name.report" run "$name.img" "$name.txt" "$@"
 }
 
-writes 0 examples/first.report examples/first.img examples/empty.txt 100
-writes 0 examples/echo.report examples/echo.img examples/echo.txt 1000
-writes 0 examples/blink.report examples/blink.img examples/blink.txt 1000 --trace
+writes 0 examples/first.img asm examples/first.s
+writes 0 examples/first.report run examples/first.img examples/empty.txt 100
+writes 0 examples/echo.img asm examples/echo.s
+writes 0 examples/echo.report run examples/echo.img examples/echo.txt 1000
+writes 0 examples/blink.img asm examples/blink.s
+writes 0 examples/blink.report run examples/blink.img examples/blink.txt 1000 --trace
+
+# The source of an image is assembled to the image.
+source=$(mktemp)
+for name in first echo blink; do
+    ./clic_tool disasm examples/$name.img >"$source" || exit 1
+    writes 0 examples/$name.img asm "$source"
+done
+rm -f "$source"
+
 row 0 division 100
 row 0 compressed 100 --trace
 row 0 output 100
@@ -41,3 +53,4 @@ row 1 interrupt 24 --trace
 row 9 vector 100
 row 0 ram 100
 echo "texts: each program writes what it is to write"
+if command -v python3 >/dev/null; then python3 tests/gnu_as.py || exit 1; fi

@@ -1,8 +1,6 @@
-mod NoFault
-mod Found
-mod Ends
-mod Held
-mod Calm
-mod Complete
+mod Fronts
+mod Plans
 mod RunEnds
 mod Causes
+mod Labels
+mod Commands

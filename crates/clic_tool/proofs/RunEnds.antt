@@ -1,18 +1,21 @@
 -- How a run ends, and what its status says.
-use Rattle.std.proofs.Common.{◌≡◌, ℕ, ◌+◌, zero, suc, List, Option, Some, None, refl}
+use Rattle.std.proofs.Common.{◌≡◌, ◌∙◌, ℕ, ◌+◌, zero, suc, List, Option, Some, None, IsTrue, refl, ap, inl, inr}
+use Rattle.board_outside.specs.Sink.{SinkView, Writes}
 use Rattle.device_model.specs.Meanings.{Meanings}
 use Rattle.hart_board.specs.State.{State}
 use Rattle.hart_board.specs.Step.{Turn, step}
 use Rattle.hart_board.specs.Event.{with_events}
-use Rattle.hart_board.specs.Run.{Ran, run_of, run_from, going_on, going_or_halted, end_at}
+use Rattle.hart_board.specs.Run.{Ran, is_whole, run_of, run_from, going_on, going_or_halted, end_at}
 use Rattle.hart_board.specs.declared.event.Event.{Event}
 use Rattle.hart_board.specs.declared.stepped.Stepped.{Stepped}
 use Rattle.hart_board.specs.declared.stepped.Stepped.TheVariants.{Retired, Interrupted, Raised, Halted as AlreadyHalted, VectorFault as NoVector}
 use Rattle.hart_board.specs.declared.run_end.RunEnd.{RunEnd}
 use Rattle.hart_board.specs.declared.run_end.RunEnd.TheVariants.{Halted, BudgetSpent as budget_spent, VectorFault as vector_fault, SinkFailed as sink_failed}
 use Rattle.clic_tool.specs.Due.{status_of}
-use Rattle.clic_tool.specs.declared.status.Status.{Status}
-use Rattle.clic_tool.specs.declared.status.Status.TheVariants.{Done, BudgetSpent, Usage, Absent, ShelfFailed, Refused, SinkFailed, Memory, VectorFault}
+use Rattle.tool_frame.specs.Answers.{Ends}
+use Rattle.tool_frame.specs.declared.status.Status.{Status}
+use Rattle.tool_frame.specs.declared.status.Status.TheVariants.{Done, BudgetSpent, Usage, VectorFault}
+use Rattle.tool_frame.proofs.Causes.{is_end}
 
 -- a run's own end is never a sink's failure
 end_never : (steps : ℕ) (halted : Option ℕ) → end_at steps halted ≡ sink_failed → ⊥
@@ -40,35 +43,12 @@ pub never_sink_failed : (m : Meanings) (es : List Event) (bound : ℕ) (s : Stat
 unfolding run_of
 never_sink_failed m es bound s e = from_never m es bound 0 (with_events m 0 es s) e
 
--- the statuses of a run that was made
-abbrev pub is_end : Status → Type 0
-is_end Done = Unit {0}
-is_end BudgetSpent = Unit {0}
-is_end SinkFailed = Unit {0}
-is_end VectorFault = Unit {0}
-is_end Usage = ⊥
-is_end Absent = ⊥
-is_end ShelfFailed = ⊥
-is_end Refused = ⊥
-is_end Memory = ⊥
-
--- the statuses of a file that stopped the command
-abbrev pub is_stop : Status → Type 0
-is_stop Absent = Unit {0}
-is_stop ShelfFailed = Unit {0}
-is_stop Refused = Unit {0}
-is_stop Memory = Unit {0}
-is_stop Done = ⊥
-is_stop BudgetSpent = ⊥
-is_stop SinkFailed = ⊥
-is_stop VectorFault = ⊥
-is_stop Usage = ⊥
-
-pub end_is_no_stop : (end : RunEnd) → is_stop (status_of end) → ⊥
-end_is_no_stop (Halted code steps) h = h
-end_is_no_stop budget_spent h = h
-end_is_no_stop (vector_fault id steps) h = h
-end_is_no_stop sink_failed h = h
+-- else it is the end of a run that was made
+pub end_is_end : (end : RunEnd) → (end ≡ sink_failed → ⊥) → is_end (status_of end)
+end_is_end (Halted code steps) never = tt
+end_is_end budget_spent never = tt
+end_is_end (vector_fault id steps) never = tt
+end_is_end sink_failed never = absurd (never refl)
 
 pub end_is_no_usage : (end : RunEnd) → status_of end ≡ Usage → ⊥
 end_is_no_usage (Halted code steps) e = cc
@@ -94,8 +74,9 @@ is_vector_fault budget_spent e = cc
 is_vector_fault (vector_fault id steps) e = (id, steps, refl)
 is_vector_fault sink_failed e = cc
 
-pub is_sink_failed : (end : RunEnd) → status_of end ≡ SinkFailed → end ≡ sink_failed
-is_sink_failed (Halted code steps) e = cc
-is_sink_failed budget_spent e = cc
-is_sink_failed (vector_fault id steps) e = cc
-is_sink_failed sink_failed e = refl
+-- a run, and the status that it ends with
+pub run_ends : (end due : RunEnd) (text : List ℕ) {status : Status} {o n : SinkView} → status ≡ status_of end → (IsTrue (is_whole end) → end ≡ due) → Writes (is_whole end) o n text → Ends status o n (record { text = text; status = status_of due })
+run_ends (Halted code steps) due text e same w = inl (e ∙ ap status_of (same refl), w)
+run_ends budget_spent due text e same w = inl (e ∙ ap status_of (same refl), w)
+run_ends (vector_fault id steps) due text e same w = inl (e ∙ ap status_of (same refl), w)
+run_ends sink_failed due text e same w = inr (e, w)

@@ -1,48 +1,27 @@
--- The text and the status that are due.
-use Rattle.std.specs.Prelude.{ℕ, List, [], Option, Some, None, Result, Ok, Err}
-use Rattle.board_outside.specs.declared.shelf.ShelfFault.{ShelfFault}
-use Rattle.board_outside.specs.declared.shelf.ShelfFault.TheVariants.{Absent as absent, Failed as failed, Memory as memory}
+-- The text and the status that are due, and what each command does with its files.
+use Rattle.std.specs.Prelude.{◌++◌, ℕ, List, [], ◌∷◌, Bool, true, false, Option, Some, None, codes}
+use Rattle.hart_words.specs.Hexadecimal.{hex8}
 use Rattle.hart_memory.specs.Image.{ImageView}
 use Rattle.hart_board.specs.Run.{Ran, run_of}
 use Rattle.hart_board.specs.Text.{run_text}
 use Rattle.hart_board.specs.declared.event.Event.{Event}
 use Rattle.hart_board.specs.declared.run_end.RunEnd.{RunEnd}
 use Rattle.hart_board.specs.declared.run_end.RunEnd.TheVariants.{Halted, BudgetSpent as budget_spent, VectorFault as vector_fault, SinkFailed as sink_failed}
+use Rattle.board_inputs.specs.ImageFile.{image_text}
 use Rattle.board_inputs.specs.ImageLoading.{loaded}
+use Rattle.rv_assembler.specs.Symbols.{Symbol}
+use Rattle.rv_assembler.specs.Source.{Program}
+use Rattle.rv_disasm.specs.Listing.{image_text as image_source}
+use Rattle.tool_frame.specs.Due.{Due, usage_due}
+use Rattle.tool_frame.specs.Plan.{Plan, Makes, Asks, go_on}
+use Rattle.tool_frame.specs.declared.status.Status.{Status}
+use Rattle.tool_frame.specs.declared.status.Status.TheVariants.{Done, BudgetSpent, SinkFailed, VectorFault}
 use Rattle.clic_tool.specs.Shipped.{shipped_meanings, shipped_board}
-use Rattle.clic_tool.specs.Order.{Order}
-use Rattle.clic_tool.specs.Lines.{usage_line, absent_line, failed_line, refusal_line}
-use Rattle.clic_tool.specs.Stages.{image_stage, scenario_stage}
-use Rattle.clic_tool.specs.declared.refusal.Refusal.{Refusal}
-use Rattle.clic_tool.specs.declared.status.Status.{Status}
-use Rattle.clic_tool.specs.declared.status.Status.TheVariants.{Done, BudgetSpent, Usage, Absent, ShelfFailed, Refused, SinkFailed, Memory, VectorFault}
+use Rattle.clic_tool.specs.Order.{RunWords, AssembleWords, DisassembleWords, Order, Runs, Assembles, Disassembles}
+use Rattle.clic_tool.specs.Lines.{refusal_line}
+use Rattle.clic_tool.specs.Stages.{image_limit, image_stage, scenario_limit, scenario_stage, source_limit, source_stage}
 
--- the text that is to be written, and the status
-pub record Due : Type 0 where
-  pub text : List ℕ
-  pub status : Status
-
--- words that are no command
-abbrev pub usage_due : Due
-usage_due = record { text = usage_line; status = Usage }
-
--- a file that isn't there
-abbrev pub absent_due : List ℕ → Due
-absent_due name = record { text = absent_line name; status = Absent }
-
--- a file that is refused
-abbrev pub refusal_due : Refusal → Due
-refusal_due refusal = record { text = refusal_line refusal; status = Refused }
-
--- want of memory
-abbrev pub memory_due : Due
-memory_due = record { text = []; status = Memory }
-
--- a file that wasn't given
-abbrev pub fault_due : List ℕ → ShelfFault → Due
-fault_due name absent = absent_due name
-fault_due name failed = record { text = failed_line name; status = ShelfFailed }
-fault_due name memory = memory_due
+-- ---- a run
 
 -- the status of a run that ended so
 abbrev pub status_of : RunEnd → Status
@@ -56,27 +35,52 @@ abbrev pub run_made : ImageView → List Event → ℕ → Ran
 run_made image events bound = run_of shipped_meanings events bound (loaded image shipped_board)
 
 -- what is due of it
-unfoldable pub run_due : Order → ImageView → List Event → Due
-run_due order image events =
-    record { text = run_text shipped_meanings order.traces order.bound_is (run_made image events order.bound_is); status = status_of (run_made image events order.bound_is).end }
+unfoldable pub run_due : RunWords → ImageView → List Event → Due
+run_due run image events =
+    record { text = run_text shipped_meanings run.traces run.bound_is (run_made image events run.bound_is); status = status_of (run_made image events run.bound_is).end }
 
--- what a stage gives, or what is due where it refuses
-abbrev pub staged : {A : Type 0} → Result A Refusal → Result A Due
-staged (Ok x) = Ok x
-staged (Err refusal) = Err (refusal_due refusal)
+-- after the image the scenario is asked for, and then the run is made
+abbrev pub scenario_plan : RunWords → ImageView → Plan
+scenario_plan run image = Asks run.scenario_name scenario_limit (λ bytes. go_on refusal_line (scenario_stage bytes) (λ events. Makes (run_due run image events)))
 
--- what the file of a name gives, as the shelf holds it, or what is due of it
-abbrev pub held : {A : Type 0} → List ℕ → (List ℕ → Result A Refusal) → Option (List ℕ) → Result A Due
-held name stage None = Err (absent_due name)
-held name stage (Some bytes) = staged (stage bytes)
+abbrev pub run_plan : RunWords → Plan
+run_plan run = Asks run.image_name image_limit (λ bytes. go_on refusal_line (image_stage bytes) (λ image. scenario_plan run image))
 
--- what is due of what was given, or what is due already
-abbrev pub and_then : {A : Type 0} → Result A Due → (A → Due) → Due
-and_then (Ok x) next = next x
-and_then (Err due) next = due
+-- ---- an assembly
 
--- what is due by the files that the words name: the image is dealt with before the scenario
-unfoldable pub files_due : Order → Option (List ℕ) → Option (List ℕ) → Due
-files_due order image_file scenario_file =
-    and_then (held order.image_name image_stage image_file) (λ image.
-    and_then (held order.scenario_name scenario_stage scenario_file) (λ events. run_due order image events))
+-- a label: its address and its name
+unfoldable pub symbol_line : Symbol → List ℕ
+symbol_line s = hex8 s.address ++ codes " " ++ s.name ++ codes "\n"
+
+-- labels in the order of their definition
+abbrev pub symbols_text : List Symbol → List ℕ
+symbols_text [] = []
+symbols_text (s ∷ ss) = symbol_line s ++ symbols_text ss
+
+-- the labels of a program, or the file of its image
+abbrev pub program_text : Bool → Program → List ℕ
+program_text true program = symbols_text program.symbols
+program_text false program = image_text program.image
+
+abbrev pub program_due : AssembleWords → Program → Due
+program_due words program = record { text = program_text words.wants_symbols program; status = Done }
+
+abbrev pub assemble_plan : AssembleWords → Plan
+assemble_plan words = Asks words.source_name source_limit (λ bytes. go_on refusal_line (source_stage bytes) (λ program. Makes (program_due words program)))
+
+-- ---- a disassembly
+
+-- the source of an image
+abbrev pub listing_due : ImageView → Due
+listing_due image = record { text = image_source image; status = Done }
+
+abbrev pub disassemble_plan : DisassembleWords → Plan
+disassemble_plan words = Asks words.image_name image_limit (λ bytes. go_on refusal_line (image_stage bytes) (λ image. Makes (listing_due image)))
+
+-- ---- any words
+
+abbrev pub plan_of : Option Order → Plan
+plan_of None = Makes usage_due
+plan_of (Some (Runs run)) = run_plan run
+plan_of (Some (Assembles words)) = assemble_plan words
+plan_of (Some (Disassembles words)) = disassemble_plan words

@@ -1,9 +1,7 @@
-pub mod Code
 pub mod Order
 pub mod View
 pub mod Lines
 pub mod Shipped
 pub mod Stages
 pub mod Due
-pub mod Answers
 pub mod Causes

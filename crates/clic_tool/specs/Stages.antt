@@ -5,8 +5,10 @@ use Rattle.hart_memory.specs.Image.{ImageView}
 use Rattle.hart_board.specs.declared.event.Event.{Event}
 use Rattle.board_inputs.specs.ImageReading.{Fault as ImageFault, image_of}
 use Rattle.board_inputs.specs.ScenarioReading.{Fault as ScenarioFault, scenario_of}
+use Rattle.rv_assembler.specs.Source.{Program, Refusal as SourceFault, assembled}
+use Rattle.rv_assembler.specs.declared.assembled.Assembled.{Assembled}
 use Rattle.clic_tool.specs.declared.refusal.Refusal.{Refusal}
-use Rattle.clic_tool.specs.declared.refusal.Refusal.TheVariants.{ImageTooLarge, BadImage, ScenarioTooLarge, BadScenario}
+use Rattle.clic_tool.specs.declared.refusal.Refusal.TheVariants.{ImageTooLarge, BadImage, ScenarioTooLarge, BadScenario, SourceTooLarge, BadSource}
 use Rattle.clic_tool.specs.declared.stop.Stop.{Stop}
 use Rattle.clic_tool.specs.declared.stop.Stop.TheVariants.{Memory, Refused}
 
@@ -18,6 +20,10 @@ image_limit = 262_144
 abbrev pub scenario_limit : ℕ
 scenario_limit = 4_194_304
 
+-- a source file has at most so many bytes
+abbrev pub source_limit : ℕ
+source_limit = 2_097_152
+
 abbrev pub image_or_refusal : Result ImageView ImageFault → Result ImageView Refusal
 image_or_refusal (Ok image) = Ok image
 image_or_refusal (Err fault) = Err (BadImage fault.place fault.why)
@@ -26,6 +32,10 @@ abbrev pub events_or_refusal : Result (List Event) ScenarioFault → Result (Lis
 events_or_refusal (Ok events) = Ok events
 events_or_refusal (Err fault) = Err (BadScenario fault.line fault.why)
 
+abbrev pub program_or_refusal : Result Program SourceFault → Result Program Refusal
+program_or_refusal (Ok program) = Ok program
+program_or_refusal (Err fault) = Err (BadSource fault.line fault.why)
+
 -- the image of a file, or why the file is refused
 unfoldable pub image_stage : List ℕ → Result ImageView Refusal
 image_stage bytes = if nat_lt image_limit (length bytes) then Err ImageTooLarge else image_or_refusal (image_of bytes)
@@ -33,6 +43,10 @@ image_stage bytes = if nat_lt image_limit (length bytes) then Err ImageTooLarge 
 -- the events of a file, or why the file is refused
 unfoldable pub scenario_stage : List ℕ → Result (List Event) Refusal
 scenario_stage bytes = if nat_lt scenario_limit (length bytes) then Err ScenarioTooLarge else events_or_refusal (scenario_of INPUTS bytes)
+
+-- the program of a source, or why the file is refused
+unfoldable pub source_stage : List ℕ → Result Program Refusal
+source_stage bytes = if nat_lt source_limit (length bytes) then Err SourceTooLarge else program_or_refusal (assembled bytes)
 
 -- ---- what a function answers
 
@@ -45,3 +59,11 @@ AnswersStop (Refused refusal) stage = stage ≡ Err refusal
 abbrev pub AnswersStage : {A : Type 0} → Result A Stop → Result A Refusal → Type 0
 AnswersStage (Ok x) stage = stage ≡ Ok x
 AnswersStage (Err stop) stage = AnswersStop stop stage
+
+-- an assembled source, as a program
+abbrev pub program_in : Assembled → Program
+program_in a = record { image = a.image; symbols = a.symbols }
+
+abbrev pub AnswersSource : Result Assembled Stop → Result Program Refusal → Type 0
+AnswersSource (Ok a) stage = stage ≡ Ok (program_in a)
+AnswersSource (Err stop) stage = AnswersStop stop stage

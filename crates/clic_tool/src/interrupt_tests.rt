@@ -1,8 +1,8 @@
-use crate::status::Status;
 use crate::tests::{Case, given, tells};
 use std::alloc::Global;
 use std::process::Abort;
 use std::test::Fail;
+use tool_frame::Status;
 
 /// Sets sp, mtvec to 0x40, mtvt to 0x100 and nlbits to 2, makes five inputs positive edge and enabled,
 /// sets MIE in its 23rd instruction, and halts after two nops; a return.
@@ -13,8 +13,8 @@ pub const PREEMPTS: [u32; 28] = [
     0x00000013, 0x100032B7, 0x0002A023, 0x00008067,
 ];
 
-// The table of vectors, from input 3's on.
-const VECTORS: [u32; 9] = [0x26C, 0, 0x26C, 0, 0x26C, 0, 0x26C, 0, 0x26C];
+/// The table of vectors, from input 3's on.
+pub const VECTORS: [u32; 9] = [0x26C, 0, 0x26C, 0, 0x26C, 0, 0x26C, 0, 0x26C];
 
 // The word at a place, or the one that stands for it.
 fn changed(place: u32, word: u32, changes: &[(u32, u32)]) -> u32 {
@@ -43,8 +43,8 @@ fn push_segment(
     Ok(())
 }
 
-// The program's image, with these words changed.
-fn image_with(alloc: Global, changes: &[(u32, u32)]) -> Result<Vec<u8>, Fail> {
+/// The program's image, with these words changed.
+pub fn image_with(alloc: Global, changes: &[(u32, u32)]) -> Result<Vec<u8>, Fail> {
     let mut file = Vec::new(alloc);
     file.extend_from_slice(b"CLC1\x00\x02\0\0\x02\0\0\0")?;
     push_segment(&mut file, 0x10C, &VECTORS, changes)?;

@@ -1,12 +1,23 @@
-// The command of the board: `clic_tool run IMAGE SCENARIO BOUND`.
+// The commands `asm`, `disasm` and `run`.
 #![tactic(auto)]
 
+mod assemble_command;
+mod assemble_order;
+mod assembling;
+#[cfg(test)]
+mod assembling_tests;
 #[cfg(test)]
 mod board_tests;
 mod command;
+mod disassemble_command;
+mod disassemble_order;
+mod disassembling;
+#[cfg(test)]
+mod disassembling_tests;
 #[cfg(test)]
 mod interrupt_tests;
 mod order;
+mod order_reading;
 #[cfg(test)]
 mod order_tests;
 #[cfg(test)]
@@ -22,7 +33,6 @@ mod running;
 #[cfg(test)]
 mod sink_tests;
 mod stages;
-mod status;
 mod stop;
 #[cfg(test)]
 mod tests;

@@ -1,4 +1,5 @@
-use crate::order::read_order;
+use crate::order::Order;
+use crate::order_reading::read_order;
 use crate::tests::words_of;
 use std::alloc::Global;
 use std::process::Abort;
@@ -14,13 +15,13 @@ fn runs(
 ) -> Result<(), Fail> {
     let words = words_of(alloc, list)?;
     match read_order(alloc, &words)? {
-        Some(order) => {
+        Some(Order::Run(order)) => {
             assert_eq!(rt; order.image, "i.img");
             assert_eq!(rt; order.scenario, "s.txt");
             assert_eq!(rt; order.bound, bound);
             assert_eq!(rt; order.trace, trace);
         }
-        None => assert!(rt; false),
+        _ => assert!(rt; false),
     }
     Ok(())
 }
@@ -90,12 +91,12 @@ fn the_flag_in_each_place(rt: HostRuntime) -> Result<(), Fail> {
 fn names_that_begin_with_a_dash(rt: HostRuntime) -> Result<(), Fail> {
     let words = words_of(rt.alloc(), &["run", "--", "--trace", "-", "5"])?;
     match read_order(rt.alloc(), &words)? {
-        Some(order) => {
+        Some(Order::Run(order)) => {
             assert_eq!(rt; order.image, "--trace");
             assert_eq!(rt; order.scenario, "-");
             assert!(rt; !order.trace);
         }
-        None => assert!(rt; false),
+        _ => assert!(rt; false),
     }
     Ok(())
 }
@@ -148,6 +149,69 @@ fn the_flag_twice_and_words_that_ask_for_help(rt: HostRuntime) -> Result<(), Fai
         &["run", "-h"],
         &["run", "i.img", "s.txt", "5", "--help"],
         &["run", "i.img", "s.txt", "5", "-h"],
+    ];
+    for list in cases {
+        is_refused(&rt, rt.alloc(), list)?;
+    }
+    Ok(())
+}
+
+// The words are those of an assembly.
+fn assembles(
+    rt: &impl Abort,
+    alloc: Global,
+    list: &[&str],
+    source: &str,
+    symbols: bool,
+) -> Result<(), Fail> {
+    let words = words_of(alloc, list)?;
+    match read_order(alloc, &words)? {
+        Some(Order::Assemble(order)) => {
+            assert_eq!(rt; order.source, source);
+            assert_eq!(rt; order.symbols, symbols);
+        }
+        _ => assert!(rt; false),
+    }
+    Ok(())
+}
+
+#[test]
+fn words_of_an_assembly(rt: HostRuntime) -> Result<(), Fail> {
+    let cases: [(&[&str], &str, bool); 5] = [
+        (&["asm", "p.s"], "p.s", false),
+        (&["asm", "p.s", "--symbols"], "p.s", true),
+        (&["asm", "--symbols", "p.s"], "p.s", true),
+        (&["asm", "--", "--symbols"], "--symbols", false),
+        (&["asm", "\u{C0} a"], "\u{C0} a", false),
+    ];
+    for (list, source, symbols) in cases {
+        assembles(&rt, rt.alloc(), list, source, symbols)?;
+    }
+    Ok(())
+}
+
+#[test]
+fn words_of_a_disassembly(rt: HostRuntime) -> Result<(), Fail> {
+    let words = words_of(rt.alloc(), &["disasm", "--", "-i.img"])?;
+    match read_order(rt.alloc(), &words)? {
+        Some(Order::Disassemble(order)) => assert_eq!(rt; order.image, "-i.img"),
+        _ => assert!(rt; false),
+    }
+    for list in [["disasm", "--symbols"], ["disassemble", "i.img"]] {
+        is_refused(&rt, rt.alloc(), &list)?;
+    }
+    Ok(())
+}
+
+#[test]
+fn words_that_are_no_assembly(rt: HostRuntime) -> Result<(), Fail> {
+    let cases: [&[&str]; 6] = [
+        &["asm"],
+        &["asm", "--symbols"],
+        &["asm", "p.s", "q.s"],
+        &["asm", "p.s", "--trace"],
+        &["asm", "--symbols", "p.s", "--symbols"],
+        &["assemble", "p.s"],
     ];
     for list in cases {
         is_refused(&rt, rt.alloc(), list)?;

@@ -1,8 +1,8 @@
-use crate::status::Status;
 use crate::tests::{given, image_of, image_of_words, tells};
 use std::alloc::Global;
 use std::process::Abort;
 use std::test::Fail;
+use tool_frame::Status;
 
 const WORDS: [&str; 4] = ["run", "i.img", "s.txt", "100"];
 
@@ -161,17 +161,20 @@ fn entries_at_odd_places(rt: HostRuntime) -> Result<(), Fail> {
     )
 }
 
-// A byte in the place of the dispatchers is accepted.
+// A byte in the place of the dispatchers is accepted, and one behind it.
 #[test]
-fn a_byte_at_bf_is_accepted(rt: HostRuntime) -> Result<(), Fail> {
+fn bytes_at_bf_and_c0_are_accepted(rt: HostRuntime) -> Result<(), Fail> {
     let none = ["run", "i.img", "s.txt", "0"];
-    let image = image_of(rt.alloc(), 0, 0xBF, &[7])?;
-    tells(
-        &rt,
-        rt.alloc(),
-        &given(&none, &image, b""),
-        Status::BudgetSpent,
-        b"end budget\n",
-        &[],
-    )
+    for at in [0xBF, 0xC0] {
+        let image = image_of(rt.alloc(), 0, at, &[7])?;
+        tells(
+            &rt,
+            rt.alloc(),
+            &given(&none, &image, b"# \xC0\n"),
+            Status::BudgetSpent,
+            b"end budget\n",
+            &[],
+        )?;
+    }
+    Ok(())
 }

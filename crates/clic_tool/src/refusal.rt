@@ -1,5 +1,6 @@
 // Why a file is refused.
 use board_inputs::{ImageWhy, ScenarioWhy};
+use rv_assembler::AsmWhy;
 
 /// Why a file is refused.
 #[derive(Clone, Copy, Debug, PartialEq, Eq, Drop)]
@@ -12,4 +13,8 @@ pub enum Refusal {
     ScenarioTooLarge,
     /// The scenario file's first fault, and its line, counted from 1.
     BadScenario { line: u32, why: ScenarioWhy },
+    /// The source file is longer than its limit.
+    SourceTooLarge,
+    /// The source file's first fault, and its line, counted from 1; or line 0 where it names no entry.
+    BadSource { line: u32, why: AsmWhy },
 }

@@ -1,7 +1,7 @@
-use crate::status::Status;
 use crate::tests::{Case, HALTS, NEVER, answers, given, tells};
 use std::alloc::Global;
 use std::test::Fail;
+use tool_frame::Status;
 
 const WORDS: [&str; 4] = ["run", "i.img", "s.txt", "10"];
 

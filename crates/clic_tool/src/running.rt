@@ -5,11 +5,10 @@ ghost use Rattle.hart_board.specs.Run.{run_of, is_whole};
 ghost use Rattle.hart_board.specs.Text.{run_text};
 ghost use Rattle.clic_tool.specs.Shipped.{shipped_meanings, shipped_board};
 ghost use Rattle.clic_tool.specs.Due.{run_due, status_of};
-ghost use Rattle.clic_tool.specs.View.{view};
-ghost use Rattle.clic_tool.specs.Answers.{EndsOrWants};
+ghost use Rattle.clic_tool.specs.View.{view_run};
+ghost use Rattle.tool_frame.specs.Answers.{EndsOrWants};
 
 use crate::run_order::RunOrder;
-use crate::status::Status;
 use board_devices::{AllDevices, shipped};
 use board_inputs::load_image;
 use board_outside::Sink;
@@ -17,6 +16,7 @@ use hart_board::{Board, Events, RunEnd, run};
 use hart_memory::Image;
 use hart_words::WantOfMemory;
 use std::alloc::Global;
+use tool_frame::Status;
 
 fn status_of_end(end: &RunEnd) -> Status
     ensures { result ≡ status_of end.now }
@@ -61,7 +61,7 @@ pub fn run_image<W: Sink>(
     events: &Events,
     out: &mut W,
 ) -> Status
-    ensures { EndsOrWants result (W.told out.old) (W.told out.new) (run_due (view order.now) image.now events.now) }
+    ensures { EndsOrWants result (W.told out.old) (W.told out.new) (run_due (view_run order.now) image.now events.now) }
 {
     let mut board = match new_board(alloc) {
         Ok(board) => board,

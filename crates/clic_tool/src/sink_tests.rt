@@ -1,33 +1,62 @@
-use crate::status::Status;
 use crate::tests::{Case, HALTS, REPORT, USAGE, answered, answers, given};
+use std::alloc::Global;
+use std::process::Abort;
 use std::test::Fail;
+use tool_frame::Status;
 
 const WORDS: [&str; 4] = ["run", "i.img", "s.txt", "100"];
 
-// Each put up to the last fails in turn, and a front of the report was written.
+const TRACED: [&str; 5] = ["run", "i.img", "s.txt", "100", "--trace"];
+
+// The command of these words, with the put of this number failing, writes a front of this text, or all of it.
+fn stops_at(
+    rt: &impl Abort,
+    alloc: Global,
+    words: &[&str],
+    put: u64,
+    text: &[u8],
+) -> Result<bool, Fail> {
+    let failing = Case {
+        put,
+        ..given(words, &HALTS, b"")
+    };
+    let (status, out) = answered(alloc, &failing)?;
+    assert!(rt; text.starts_with(out.bytes()));
+    let whole = out.bytes().len() == text.len();
+    let wanted = if whole {
+        Status::Done
+    } else {
+        Status::SinkFailed
+    };
+    assert_eq!(rt; status, wanted);
+    Ok(!whole)
+}
+
+// How many puts fail when each up to a number fails in turn.
+fn failures(rt: &impl Abort, alloc: Global, words: &[&str], text: &[u8]) -> Result<u64, Fail> {
+    let mut count: u64 = 0;
+    for put in 1..100 {
+        if stops_at(rt, alloc, words, put, text)? {
+            count = count.saturating_add(1);
+        }
+    }
+    Ok(count)
+}
+
+// The report is one put for each of its first 43 lines, and one for the bytes that were sent.
 #[test]
 fn each_put_fails_in_turn(rt: HostRuntime) -> Result<(), Fail> {
-    let mut left = REPORT.len();
-    for put in 1..100 {
-        let failing = Case {
-            put,
-            ..given(&WORDS, &HALTS, b"")
-        };
-        let (status, out) = answered(rt.alloc(), &failing)?;
-        let size = out.bytes().len();
-        assert!(rt; REPORT.starts_with(out.bytes()));
-        let whole = size == REPORT.len();
-        assert_eq!(rt;
-            status,
-            if whole {
-                Status::Done
-            } else {
-                Status::SinkFailed
-            }
-        );
-        left = REPORT.len().saturating_sub(size);
-    }
-    assert_eq!(rt; left, 0);
+    assert_eq!(rt; failures(&rt, rt.alloc(), &WORDS, REPORT)?, 44);
+    Ok(())
+}
+
+// With a trace three puts go before them.
+#[test]
+fn each_put_of_a_trace_fails_in_turn(rt: HostRuntime) -> Result<(), Fail> {
+    let mut text = Vec::new(rt.alloc());
+    text.extend_from_slice(b"i 00000000 00500513\ni 00000004 100032B7\ni 00000008 00A2A023\n")?;
+    text.extend_from_slice(REPORT)?;
+    assert_eq!(rt; failures(&rt, rt.alloc(), &TRACED, &text)?, 47);
     Ok(())
 }
 

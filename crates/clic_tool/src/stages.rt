@@ -1,12 +1,13 @@
 // What becomes of a file's bytes.
 ghost use Rattle.std.specs.Prelude.{◌≤◌, length};
-ghost use Rattle.clic_tool.specs.Stages.{AnswersStage, image_stage, scenario_stage};
+ghost use Rattle.clic_tool.specs.Stages.{AnswersStage, AnswersSource, image_stage, scenario_stage, source_stage};
 
 use crate::refusal::Refusal;
 use crate::stop::Stop;
 use board_inputs::{ImageError, ScenarioError, read_image, read_scenario};
 use hart_board::Events;
 use hart_memory::Image;
+use rv_assembler::{AsmError, Assembled, assemble};
 use std::alloc::Global;
 
 /// The greatest length of an image file.
@@ -14,6 +15,9 @@ pub const IMAGE_LIMIT: u64 = 262_144;
 
 /// The greatest length of a scenario file.
 pub const SCENARIO_LIMIT: u64 = 4_194_304;
+
+/// The greatest length of a source file.
+pub const SOURCE_LIMIT: u64 = 2_097_152;
 
 /// The image of a file whose bytes these are, or their first 262,145.
 #[tactic(auto, unfolding(crate::specs::Stages::image_stage))]
@@ -47,6 +51,23 @@ pub fn checked_events(alloc: Global, bytes: &[u8]) -> Result<Events, Stop>
         Err(ScenarioError::Memory) => Err(Stop::Memory),
         Err(ScenarioError::Refused { line, why }) => {
             Err(Stop::Refused(Refusal::BadScenario { line, why }))
+        }
+    }
+}
+
+/// The program of a source whose bytes these are, or their first 2,097,153.
+#[tactic(auto, unfolding(crate::specs::Stages::source_stage))]
+pub fn checked_source(alloc: Global, bytes: &[u8]) -> Result<Assembled, Stop>
+    ensures { AnswersSource result (source_stage bytes.now) }
+{
+    if bytes.len() as u64 > SOURCE_LIMIT {
+        return Err(Stop::Refused(Refusal::SourceTooLarge));
+    }
+    match assemble(alloc, bytes) {
+        Ok(assembled) => Ok(assembled),
+        Err(AsmError::Memory) => Err(Stop::Memory),
+        Err(AsmError::Refused { line, why }) => {
+            Err(Stop::Refused(Refusal::BadSource { line, why }))
         }
     }
 }

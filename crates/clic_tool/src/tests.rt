@@ -1,9 +1,9 @@
 use super::*;
-use crate::status::Status;
 use board_outside::{MemoryShelf, MemorySink};
 use std::alloc::Global;
 use std::process::Abort;
 use std::test::Fail;
+use tool_frame::Status;
 
 /// No call has this number.
 pub const NEVER: u64 = 100_000;
@@ -60,13 +60,14 @@ mintthresh 00000000\n\
 out 0\n\
 ";
 
-/// What a command is run over: the words, the files i.img and s.txt where they are there, the numbers
-/// of the calls that fail, and the room of the sink.
+/// What a command is run over: the words, the files i.img, s.txt and p.s where they are there, the
+/// numbers of the calls that fail, and the room of the sink.
 #[derive(Clone, Copy)]
 pub struct Case<'a> {
     pub words: &'a [&'a str],
     pub image: Option<&'a [u8]>,
     pub scenario: Option<&'a [u8]>,
+    pub source: Option<&'a [u8]>,
     pub fetch: u64,
     pub put: u64,
     pub room: usize,
@@ -78,6 +79,20 @@ pub fn given<'a>(words: &'a [&'a str], image: &'a [u8], scenario: &'a [u8]) -> C
         words,
         image: Some(image),
         scenario: Some(scenario),
+        source: None,
+        fetch: NEVER,
+        put: NEVER,
+        room: 65_536,
+    }
+}
+
+/// The words, and a source.
+pub fn given_source<'a>(words: &'a [&'a str], source: &'a [u8]) -> Case<'a> {
+    Case {
+        words,
+        image: None,
+        scenario: None,
+        source: Some(source),
         fetch: NEVER,
         put: NEVER,
         room: 65_536,
@@ -100,6 +115,9 @@ fn shelf_of(alloc: Global, case: &Case) -> Result<MemoryShelf, Fail> {
     }
     if let Some(scenario) = case.scenario {
         shelf.hold("s.txt", scenario)?;
+    }
+    if let Some(source) = case.source {
+        shelf.hold("p.s", source)?;
     }
     shelf.fail_at(case.fetch)?;
     Ok(shelf)
@@ -230,7 +248,7 @@ fn bounds_up_to_the_halt(rt: HostRuntime) -> Result<(), Fail> {
 
 #[test]
 fn words_that_are_no_command(rt: HostRuntime) -> Result<(), Fail> {
-    let cases: [&[&str]; 7] = [
+    let cases: [&[&str]; 9] = [
         &[],
         &["fly"],
         &["run"],
@@ -238,6 +256,8 @@ fn words_that_are_no_command(rt: HostRuntime) -> Result<(), Fail> {
         &["run", "i.img", "s.txt", "1000000001"],
         &["chain", "i.img", "s.txt", "looping", "100"],
         &["run", "--help"],
+        &["asm"],
+        &["asm", "p.s", "i.img"],
     ];
     for words in cases {
         answers(

@@ -1,39 +1,13 @@
-// The lines that a command writes beside the text of a run.
-ghost use Rattle.std.specs.Prelude.{◌≡◌, ◌++◌, ◌≤◌, length, is_ok};
+// The lines of files that are refused.
+ghost use Rattle.std.specs.Prelude.{◌≡◌, ◌≤◌, length, is_ok};
 ghost use Rattle.board_outside.specs.Sink.{Writes};
-ghost use Rattle.clic_tool.specs.Lines.{usage_line, named_line, image_why, scenario_why, refused_line, image_too_large, scenario_too_large, refusal_line};
+ghost use Rattle.clic_tool.specs.Lines.{image_why, scenario_why, source_why, refused_line, image_too_large, scenario_too_large, source_too_large, refusal_line};
 
 use crate::refusal::Refusal;
 use board_inputs::{ImageWhy, ScenarioWhy};
 use board_outside::{Sink, SinkFault};
 use hart_words::Line;
-
-#[tactic(auto, unfolding(crate::specs::Lines::usage_line))]
-pub fn put_usage<W: Sink>(out: &mut W) -> Result<(), SinkFault>
-    ensures { Writes (is_ok result) (W.told out.old) (W.told out.new) usage_line }
-{
-    out.put(b"usage: clic_tool asm | disasm | run | chain | monitor | gen\n")
-}
-
-// Writes one text, and then another.
-fn put_both<W: Sink>(first: &[u8], second: &[u8], out: &mut W) -> Result<(), SinkFault>
-    ensures { Writes (is_ok result) (W.told out.old) (W.told out.new) (first.now ++ second.now) }
-{
-    match out.put(first) {
-        Ok(()) => out.put(second),
-        Err(fault) => Err(fault),
-    }
-}
-
-/// Writes a line that ends with a name.
-pub fn put_named<W: Sink>(start: &[u8], name: &str, out: &mut W) -> Result<(), SinkFault>
-    ensures { Writes (is_ok result) (W.told out.old) (W.told out.new) (named_line start.now name.now) }
-{
-    match put_both(start, name.as_bytes(), out) {
-        Ok(()) => out.put(b"\n"),
-        Err(fault) => Err(fault),
-    }
-}
+use rv_assembler::AsmWhy;
 
 fn image_why(why: ImageWhy) -> &'static str
     ensures text { result.now ≡ image_why why }
@@ -60,11 +34,29 @@ fn scenario_why(why: ScenarioWhy) -> &'static str
     }
 }
 
+fn source_why(why: AsmWhy) -> &'static str
+    ensures text { result.now ≡ source_why why }
+    ensures short { length result.now ≤ 15 }
+{
+    match why {
+        AsmWhy::Lex(_) => "Lex",
+        AsmWhy::UnknownMnemonic => "UnknownMnemonic",
+        AsmWhy::BadOperands => "BadOperands",
+        AsmWhy::UnknownLabel => "UnknownLabel",
+        AsmWhy::DoubleLabel => "DoubleLabel",
+        AsmWhy::OutOfReach => "OutOfReach",
+        AsmWhy::OutsideMemory => "OutsideMemory",
+        AsmWhy::Overlap => "Overlap",
+        AsmWhy::NoEntry => "NoEntry",
+        AsmWhy::TooLarge => "TooLarge",
+    }
+}
+
 // The line of a role, a reason and a number.
 #[tactic(auto, unfolding(crate::specs::Lines::refused_line))]
 fn line_of(role: &str, why: &str, number: u32) -> Line
     requires role { length role.now ≤ 13 }
-    requires why { length why.now ≤ 13 }
+    requires why { length why.now ≤ 15 }
     ensures { result ≡ refused_line role.now why.now number }
 {
     let mut line = Line::new();
@@ -92,6 +84,13 @@ fn put_scenario_too_large<W: Sink>(out: &mut W) -> Result<(), SinkFault>
     out.put(b"refused scenario TooLarge\n")
 }
 
+#[tactic(auto, unfolding(crate::specs::Lines::source_too_large))]
+fn put_source_too_large<W: Sink>(out: &mut W) -> Result<(), SinkFault>
+    ensures { Writes (is_ok result) (W.told out.old) (W.told out.new) source_too_large }
+{
+    out.put(b"refused source TooLarge\n")
+}
+
 /// Writes why a file is refused.
 pub fn put_refusal<W: Sink>(refusal: Refusal, out: &mut W) -> Result<(), SinkFault>
     ensures { Writes (is_ok result) (W.told out.old) (W.told out.new) (refusal_line refusal) }
@@ -105,6 +104,11 @@ pub fn put_refusal<W: Sink>(refusal: Refusal, out: &mut W) -> Result<(), SinkFau
         Refusal::ScenarioTooLarge => put_scenario_too_large(out),
         Refusal::BadScenario { line, why } => {
             let text = line_of("scenario", scenario_why(why), line);
+            out.put(text.bytes())
+        }
+        Refusal::SourceTooLarge => put_source_too_large(out),
+        Refusal::BadSource { line, why } => {
+            let text = line_of("source", source_why(why), line);
             out.put(text.bytes())
         }
     }

@@ -1,20 +1,20 @@
-use Rattle.std.proofs.Common.{◌≡◌, Some, None, inr, refl}
-use Rattle.clic_tool.specs.Order.{order_of}
+use Rattle.std.proofs.Common.{◌≡◌, Option, Some, None, subst, sym, inl}
+use Rattle.tool_frame.specs.Answers.{Follows}
+use Rattle.tool_frame.proofs.Ends.{lacks, makes}
+use Rattle.clic_tool.specs.Order.{Order, order_of}
 use Rattle.clic_tool.specs.View.{view}
-use Rattle.clic_tool.specs.Lines.{usage_line}
-use Rattle.clic_tool.specs.declared.status.Status.TheVariants.{Usage}
-use Rattle.clic_tool.proofs.Ends.{ends_by, lacks, of_words, of_usage}
+use Rattle.clic_tool.specs.Due.{plan_of}
 use Rattle.clic_tool.proofs.command.answer.Goals as goal
 
 pub returns-in-Ok-Some : goal.returns-in-Ok-Some
 returns-in-Ok-Some g c =
     let told : Some (view c.in-Ok-Some.order) ≡ order_of c.args.words.now = rw c.in-Ok-Some.field-0-is at c.in-Ok-Some.ensures in
-    of_words (view c.in-Ok-Some.order) (order_of c.args.words.now) c.run_files.result _ _ _ _ told c.run_files.ensures
+    subst (λ (o : Option Order). Follows c.follow.result (plan_of o) (g.F.Shelf.told c.args.shelf.now) (g.F.Shelf.told c.follow.new.shelf) (g.W.Sink.told c.args.out.now) (g.W.Sink.told c.follow.new.out)) told c.follow.ensures
 
 pub returns-in-Ok-None : goal.returns-in-Ok-None
 returns-in-Ok-None g c =
     let told : None ≡ order_of c.args.words.now = rw c.in-Ok-None.field-0-is at c.in-Ok-None.ensures in
-    of_usage (order_of c.args.words.now) c.ended.result _ _ _ told (ends_by _ Usage usage_line c.ended.ensures c.put_usage.ensures)
+    subst (λ (o : Option Order). Follows c.end_usage.result (plan_of o) (g.F.Shelf.told c.args.shelf.now) (g.F.Shelf.told c.args.shelf.now) (g.W.Sink.told c.args.out.now) (g.W.Sink.told c.end_usage.new.out)) told (makes _ (inl c.end_usage.ensures))
 
 pub returns-in-Err : goal.returns-in-Err
-returns-in-Err g c = inr (lacks _ (record { absences = refl; faults = refl }))
+returns-in-Err g c = lacks _ _ _

@@ -1,6 +1,6 @@
 use Rattle.clic_tool.specs.Lines.{refusal_line}
-use Rattle.clic_tool.specs.declared.status.Status.TheVariants.{Refused}
-use Rattle.clic_tool.proofs.Ends.{ends_by}
+use Rattle.tool_frame.specs.declared.status.Status.TheVariants.{Refused}
+use Rattle.tool_frame.proofs.Ends.{ends_by}
 use Rattle.clic_tool.proofs.command.end_refusal.Goals as goal
 
 pub returns : goal.returns

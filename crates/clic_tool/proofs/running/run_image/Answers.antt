@@ -1,6 +1,6 @@
 use Rattle.std.proofs.Common.{inl}
 use Rattle.clic_tool.specs.Due.{run_due}
-use Rattle.clic_tool.proofs.Ends.{run_ends}
+use Rattle.clic_tool.proofs.RunEnds.{run_ends}
 use Rattle.clic_tool.proofs.running.run_image.Goals as goal
 
 pub returns : goal.returns

@@ -1,0 +1,17 @@
+-- Each command is one that clap's own account of its words covers.
+use Rattle.std.proofs.Common.{◌≡◌, refl, sym, subst}
+use Rattle.clap.specs.Words.{App}
+use Rattle.tool_frame.specs.Options.{IsPlainApp}
+use Rattle.clic_tool.specs.Order.{run_app, assemble_app, disassemble_app}
+
+pub run_plain : IsPlainApp run_app
+run_plain = record { simple = refl; simple_and_free = refl; alone = refl; defaults = refl; rules = refl }
+
+pub assemble_plain : IsPlainApp assemble_app
+assemble_plain = record { simple = refl; simple_and_free = refl; alone = refl; defaults = refl; rules = refl }
+
+pub disassemble_plain : IsPlainApp disassemble_app
+disassemble_plain = record { simple = refl; simple_and_free = refl; alone = refl; defaults = refl; rules = refl }
+
+pub plain_by : (app known : App) → app ≡ known → IsPlainApp known → IsPlainApp app
+plain_by app known e plain = subst IsPlainApp (sym e) plain

@@ -1,8 +1,0 @@
-use Rattle.board_outside.proofs.Writing.{then_writes, stops_writing}
-use Rattle.clic_tool.proofs.writing.put_both.Goals as goal
-
-pub returns-in-Ok : goal.returns-in-Ok
-returns-in-Ok g c = then_writes c.in-Ok.ensures c.put-in-Ok.ensures
-
-pub returns-in-Err : goal.returns-in-Err
-returns-in-Err g c = stops_writing _ c.in-Err.ensures

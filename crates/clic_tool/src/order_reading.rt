@@ -1,0 +1,52 @@
+// What the words of the program ask for.
+ghost use Rattle.std.specs.Prelude.{◌≡◌, IfOk, option_map};
+ghost use Rattle.std.specs.Str.{bytes_eq};
+ghost use Rattle.tool_frame.specs.Options.{starts_with};
+ghost use Rattle.clic_tool.specs.Order.{order_of};
+ghost use Rattle.clic_tool.specs.View.{view};
+
+use crate::assemble_command::read_assemble;
+use crate::disassemble_command::read_disassemble;
+use crate::order::Order;
+use crate::run_command::read_run;
+use board_outside::Words;
+use hart_words::WantOfMemory;
+use std::alloc::Global;
+
+fn is_text(a: &str, b: &str) -> bool
+    ensures { result ≡ bytes_eq a.now b.now }
+{
+    a == b
+}
+
+// Whether the first word is this one.
+fn names(words: &Words, command: &str) -> bool
+    ensures { result ≡ starts_with command.now words.now }
+{
+    words.len() > 0 && is_text(words.get(0), command)
+}
+
+/// What the words ask for, where they are those of a command. They are the words after the program's name.
+#[tactic(auto, unfolding(crate::specs::Order::order_of))]
+pub fn read_order<'a>(alloc: Global, words: &'a Words) -> Result<Option<Order<'a>>, WantOfMemory>
+    ensures { IfOk result (λ order. option_map view order ≡ order_of words.entry.now) }
+{
+    if names(words, "run") {
+        match read_run(alloc, words.as_slice())? {
+            Some(order) => Ok(Some(Order::Run(order))),
+            None => Ok(None),
+        }
+    } else if names(words, "asm") {
+        match read_assemble(alloc, words.as_slice())? {
+            Some(order) => Ok(Some(Order::Assemble(order))),
+            None => Ok(None),
+        }
+    } else if names(words, "disasm") {
+        match read_disassemble(alloc, words.as_slice())? {
+            Some(order) => Ok(Some(Order::Disassemble(order))),
+            None => Ok(None),
+        }
+    } else {
+        Ok(None)
+    }
+}

@@ -1,0 +1,13 @@
+pub mod Rows
+pub mod Again
+pub mod Shapes
+pub mod Table
+pub mod Halves
+pub mod Sentences
+pub mod TextLines
+pub mod Fronts
+pub mod Firsts
+pub mod Passes
+pub mod Running
+pub mod Whole
+pub mod Lengths

@@ -1,0 +1,22 @@
+use Rattle.std.proofs.Common.{◌≡◌, ℕ, ◌+◌, ◌^◌, ◌<◌, ◌≤◌, ◌++◌, length, drop, ap, sym, ◌∙◌, arith, append_assoc}
+use Rattle.std.specs.List.{flat_map}
+use Rattle.std.proofs.lemmas.Bool.{lt-ltb}
+use Rattle.std.proofs.lemmas.Result.{on_ok_weaker}
+use Rattle.rv_disasm.specs.Fitting.{statement_fits}
+use Rattle.rv_disasm.specs.Listing.{segment_text, org_text, listing}
+use Rattle.rv_disasm.proofs.Whole.{segment_at, segment_on, segment_small}
+use Rattle.rv_disasm.proofs.disassembly.push_segment.Goals as goal
+
+pub push_line-requires : goal.push_line-requires
+unfolding statement_fits
+push_line-requires c = lt-ltb c.at-base.result (2 ^ 32) c.at-base.type_inv
+
+pub push_listing-requires : goal.push_listing-requires
+push_listing-requires c =
+    let small = segment_small c.args.image.now.segments c.args.i _ _ c.requires.sound c.at-base.ensures c.bytes.ensures in
+    omega (arith, small)
+
+pub returns : goal.returns
+returns c =
+    let s = segment_at c.args.image.now.segments c.args.i _ _ c.at-base.ensures c.bytes.ensures in
+    on_ok_weaker c.push_listing.result (λ f. segment_on c.args.image.now.segments c.args.i _ _ c.args.text.now c.push_line.new.text c.push_listing.new.text s c.in_ok-push_line.ensures f) c.push_listing.ensures

@@ -1,0 +1,14 @@
+// The disassembler: from bytes and images to source that is assembled to them.
+#![tactic(auto)]
+
+mod disassembly;
+pub mod laws;
+mod listing;
+mod printing;
+mod shown;
+mod statement;
+mod values;
+
+pub use disassembly::{disassemble, disassemble_image};
+pub use statement::Statement;
+pub use values::Values;

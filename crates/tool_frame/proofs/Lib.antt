@@ -1,0 +1,7 @@
+mod NoFault
+mod Found
+pub mod Ends
+pub mod Held
+pub mod Calm
+pub mod Complete
+pub mod Causes

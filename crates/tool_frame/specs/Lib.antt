@@ -1,0 +1,7 @@
+pub mod Code
+pub mod Lines
+pub mod Options
+pub mod Due
+pub mod Plan
+pub mod Answers
+pub mod Causes

@@ -1,0 +1,17 @@
+-- The lines that any command may write.
+use Rattle.std.specs.Prelude.{ℕ, List, ◌++◌, codes}
+
+unfoldable pub usage_line : List ℕ
+usage_line = codes "usage: clic_tool asm | disasm | run | chain | monitor | gen\n"
+
+-- a line that ends with a name
+unfoldable pub named_line : List ℕ → List ℕ → List ℕ
+named_line start name = start ++ name ++ codes "\n"
+
+-- a file that isn't there
+abbrev pub absent_line : List ℕ → List ℕ
+absent_line name = named_line (codes "absent ") name
+
+-- a file that couldn't be read
+abbrev pub failed_line : List ℕ → List ℕ
+failed_line name = named_line (codes "shelf failed ") name
