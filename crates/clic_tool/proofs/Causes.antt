@@ -7,7 +7,7 @@ use Rattle.board_outside.specs.declared.shelf.ShelfFault.{ShelfFault}
 use Rattle.board_outside.specs.declared.shelf.ShelfFault.TheVariants.{Absent as absent, Failed as failed, Memory as memory}
 use Rattle.hart_memory.specs.Image.{ImageView}
 use Rattle.hart_board.specs.declared.event.Event.{Event}
-use Rattle.hart_board.specs.declared.run_end.RunEnd.TheVariants.{BudgetSpent as budget_spent, VectorFault as vector_fault}
+use Rattle.hart_board.specs.declared.run_end.RunEnd.TheVariants.{Halted as halted, BudgetSpent as budget_spent, VectorFault as vector_fault}
 use Rattle.clic_tool.specs.Shipped.{shipped_meanings}
 use Rattle.clic_tool.specs.Order.{Order}
 use Rattle.clic_tool.specs.Stages.{image_limit, image_stage, scenario_limit, scenario_stage}
@@ -19,7 +19,7 @@ use Rattle.clic_tool.specs.declared.status.Status.{Status}
 use Rattle.clic_tool.specs.declared.status.Status.TheVariants.{Done, BudgetSpent, Usage, Absent, ShelfFailed, Refused, SinkFailed, Memory, VectorFault}
 use Rattle.clic_tool.proofs.Held.{never_rose}
 use Rattle.clic_tool.proofs.Complete.{run_status}
-use Rattle.clic_tool.proofs.RunEnds.{never_sink_failed, is_end, is_stop, end_is_no_stop, end_is_no_usage, is_budget_spent, is_vector_fault, is_sink_failed}
+use Rattle.clic_tool.proofs.RunEnds.{never_sink_failed, is_end, is_stop, end_is_no_stop, end_is_no_usage, is_halted, is_budget_spent, is_vector_fault, is_sink_failed}
 
 -- ---- how far a command came, by the status that is due
 
@@ -116,6 +116,12 @@ done_cause status parsed shelf shelf' sink sink' answers e =
     let all = settled (λ due. Comes parsed shelf shelf' due) Done status shelf shelf' sink sink' answers e (λ c. cc) (λ c. cc) in
     let ran = comes_ran parsed shelf shelf' all.due Done all.reached all.due_status tt in
     record { shelf_counts = files_keep ran.run shelf shelf' ran.image ran.events ran.files; sink_faults = all.text.counts }
+
+pub halted_cause : (status : Status) (parsed : Option Order) (shelf shelf' : ShelfView) (sink sink' : SinkView) → Answers status parsed shelf shelf' sink sink' → status ≡ Done → RanTo (λ end. (code : ℕ) × (steps : ℕ) × (end ≡ halted code steps)) parsed shelf shelf'
+halted_cause status parsed shelf shelf' sink sink' answers e =
+    let all = settled (λ due. Comes parsed shelf shelf' due) Done status shelf shelf' sink sink' answers e (λ c. cc) (λ c. cc) in
+    let ran = comes_ran parsed shelf shelf' all.due Done all.reached all.due_status tt in
+    record { run = ran.run; is_run = ran.is_run; image = ran.image; events = ran.events; files = ran.files; end = is_halted (run_made ran.image ran.events ran.run.bound_is).end ran.end }
 
 pub budget_cause : (status : Status) (parsed : Option Order) (shelf shelf' : ShelfView) (sink sink' : SinkView) → Answers status parsed shelf shelf' sink sink' → status ≡ BudgetSpent → RanTo (λ end. end ≡ budget_spent) parsed shelf shelf'
 budget_cause status parsed shelf shelf' sink sink' answers e =

@@ -76,6 +76,12 @@ end_is_no_usage budget_spent e = cc
 end_is_no_usage (vector_fault id steps) e = cc
 end_is_no_usage sink_failed e = cc
 
+pub is_halted : (end : RunEnd) → status_of end ≡ Done → (code : ℕ) × (steps : ℕ) × (end ≡ Halted code steps)
+is_halted (Halted code steps) e = (code, steps, refl)
+is_halted budget_spent e = cc
+is_halted (vector_fault id steps) e = cc
+is_halted sink_failed e = cc
+
 pub is_budget_spent : (end : RunEnd) → status_of end ≡ BudgetSpent → end ≡ budget_spent
 is_budget_spent (Halted code steps) e = cc
 is_budget_spent budget_spent e = refl

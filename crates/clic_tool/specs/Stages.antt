@@ -7,8 +7,8 @@ use Rattle.board_inputs.specs.ImageReading.{Fault as ImageFault, image_of}
 use Rattle.board_inputs.specs.ScenarioReading.{Fault as ScenarioFault, scenario_of}
 use Rattle.clic_tool.specs.declared.refusal.Refusal.{Refusal}
 use Rattle.clic_tool.specs.declared.refusal.Refusal.TheVariants.{ImageTooLarge, BadImage, ScenarioTooLarge, BadScenario}
-use Rattle.clic_tool.specs.declared.refusal.Stop.{Stop}
-use Rattle.clic_tool.specs.declared.refusal.Stop.TheVariants.{Memory, Refused}
+use Rattle.clic_tool.specs.declared.stop.Stop.{Stop}
+use Rattle.clic_tool.specs.declared.stop.Stop.TheVariants.{Memory, Refused}
 
 -- an image file has at most so many bytes
 abbrev pub image_limit : ℕ

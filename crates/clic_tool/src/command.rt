@@ -3,7 +3,7 @@ ghost use Rattle.std.specs.Prelude.{◌≡◌, ℕ, ◌<◌, true, if◌then◌e
 ghost use Rattle.board_outside.specs.Counts.{Rose};
 ghost use Rattle.board_outside.specs.Shelf.{file_at};
 ghost use Rattle.board_outside.specs.Sink.{Writes};
-ghost use Rattle.hart_board.specs.declared.run_end.RunEnd.TheVariants.{BudgetSpent, VectorFault};
+ghost use Rattle.hart_board.specs.declared.run_end.RunEnd.TheVariants.{Halted, BudgetSpent, VectorFault};
 ghost use Rattle.clic_tool.specs.Order.{Order, order_of};
 ghost use Rattle.clic_tool.specs.View.{view};
 ghost use Rattle.clic_tool.specs.Due.{refusal_due, fault_due, files_due};
@@ -11,11 +11,12 @@ ghost use Rattle.clic_tool.specs.Answers.{Ends, DoesOrLacks, AfterImage, RunsFil
 ghost use Rattle.clic_tool.specs.Causes.{NoneRose, RanTo, IsAbsent, HasFailed, IsRefusedRun};
 
 use crate::order::read_order;
-use crate::refusal::{Refusal, Stop};
+use crate::refusal::Refusal;
 use crate::run_order::RunOrder;
 use crate::running::run_image;
 use crate::stages::{IMAGE_LIMIT, SCENARIO_LIMIT, checked_events, checked_image};
 use crate::status::Status;
+use crate::stop::Stop;
 use crate::writing::{put_named, put_refusal, put_usage};
 use board_outside::{Shelf, ShelfFault, Sink, SinkFault, Words};
 use hart_memory::Image;
@@ -120,6 +121,7 @@ pub fn clic_main<F: Shelf, W: Sink>(
 
     // Each status comes only for its cause. Memory is free, and then nothing is written.
     ensures status_done { result ≡ Status.Done → NoneRose (F.told shelf.old) (F.told shelf.new) (W.told out.old) (W.told out.new) }
+    ensures status_done_halted { result ≡ Status.Done → RanTo (λ end. (code : ℕ) × (steps : ℕ) × (end ≡ Halted code steps)) (order_of words.now) (F.told shelf.old) (F.told shelf.new) }
     ensures status_budget_spent { result ≡ Status.BudgetSpent → RanTo (λ end. end ≡ BudgetSpent) (order_of words.now) (F.told shelf.old) (F.told shelf.new) }
     ensures status_usage { result ≡ Status.Usage → order_of words.now ≡ None }
     ensures status_absent { result ≡ Status.Absent → IsAbsent (order_of words.now) (F.told shelf.old) (F.told shelf.new) (W.told out.old) (W.told out.new) }

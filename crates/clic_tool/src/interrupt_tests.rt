@@ -4,9 +4,9 @@ use std::alloc::Global;
 use std::process::Abort;
 use std::test::Fail;
 
-// Sets sp, mtvec to 0x40, mtvt to 0x100 and nlbits to 2, makes five inputs positive edge and enabled,
-// sets MIE in its 23rd instruction, and halts after two nops; a return.
-const PREEMPTS: [u32; 28] = [
+/// Sets sp, mtvec to 0x40, mtvt to 0x100 and nlbits to 2, makes five inputs positive edge and enabled,
+/// sets MIE in its 23rd instruction, and halts after two nops; a return.
+pub const PREEMPTS: [u32; 28] = [
     0x20010137, 0x04000293, 0x30529073, 0x10000293, 0x30729073, 0x02000337, 0x00400293, 0x00530023,
     0x02001337, 0x400202B7, 0x10028293, 0x00532623, 0x00532A23, 0xC00202B7, 0x10028293, 0x00532E23,
     0x000202B7, 0x10028293, 0x02532223, 0x800202B7, 0x10028293, 0x02532623, 0x30046073, 0x00000013,

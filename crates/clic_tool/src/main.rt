@@ -23,6 +23,7 @@ mod running;
 mod sink_tests;
 mod stages;
 mod status;
+mod stop;
 #[cfg(test)]
 mod tests;
 mod writing;

@@ -1,16 +1,8 @@
 use crate::order::read_order;
-use board_outside::Words;
+use crate::tests::words_of;
 use std::alloc::Global;
 use std::process::Abort;
 use std::test::Fail;
-
-fn words_of(alloc: Global, list: &[&str]) -> Result<Words, Fail> {
-    let mut words = Words::new(alloc);
-    for word in list {
-        words.push(word)?;
-    }
-    Ok(words)
-}
 
 // The words are those of a run of i.img with s.txt.
 fn runs(

@@ -13,10 +13,3 @@ pub enum Refusal {
     /// The scenario file's first fault, and its line, counted from 1.
     BadScenario { line: u32, why: ScenarioWhy },
 }
-
-/// Why a file wasn't passed.
-#[derive(Clone, Copy, Debug, PartialEq, Eq, Drop)]
-pub enum Stop {
-    Memory,
-    Refused(Refusal),
-}

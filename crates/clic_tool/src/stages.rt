@@ -2,7 +2,8 @@
 ghost use Rattle.std.specs.Prelude.{◌≤◌, length};
 ghost use Rattle.clic_tool.specs.Stages.{AnswersStage, image_stage, scenario_stage};
 
-use crate::refusal::{Refusal, Stop};
+use crate::refusal::Refusal;
+use crate::stop::Stop;
 use board_inputs::{ImageError, ScenarioError, read_image, read_scenario};
 use hart_board::Events;
 use hart_memory::Image;

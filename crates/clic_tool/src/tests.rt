@@ -72,7 +72,7 @@ pub struct Case<'a> {
     pub room: usize,
 }
 
-/// The words `run i.img s.txt`, the bound, and the flag.
+/// These words over these two files, where nothing fails and the sink has room.
 pub fn given<'a>(words: &'a [&'a str], image: &'a [u8], scenario: &'a [u8]) -> Case<'a> {
     Case {
         words,
@@ -84,7 +84,8 @@ pub fn given<'a>(words: &'a [&'a str], image: &'a [u8], scenario: &'a [u8]) -> C
     }
 }
 
-fn words_of(alloc: Global, list: &[&str]) -> Result<Words, Fail> {
+/// The words of a command line.
+pub fn words_of(alloc: Global, list: &[&str]) -> Result<Words, Fail> {
     let mut words = Words::new(alloc);
     for word in list {
         words.push(word)?;

@@ -2,7 +2,7 @@ use Rattle.clic_tool.specs.Order.{order_of}
 use Rattle.clic_tool.proofs.Ends.{of_run, of_misuse}
 use Rattle.clic_tool.proofs.Calm.{calm_run}
 use Rattle.clic_tool.proofs.Complete.{complete_run}
-use Rattle.clic_tool.proofs.Causes.{done_cause, budget_cause, usage_cause, absent_cause, failed_cause, refused_cause, sink_cause, memory_cause, vector_cause, sink_faults, shelf_faults, shelf_absences}
+use Rattle.clic_tool.proofs.Causes.{done_cause, halted_cause, budget_cause, usage_cause, absent_cause, failed_cause, refused_cause, sink_cause, memory_cause, vector_cause, sink_faults, shelf_faults, shelf_absences}
 use Rattle.clic_tool.proofs.command.clic_main.Goals as goal
 
 -- each clause follows from what was done
@@ -21,6 +21,7 @@ returns g c =
       due = λ order here. calm_run status order shelf shelf' sink sink' (of_run order parsed status shelf shelf' sink sink' here done);
       complete = λ order here. complete_run status order shelf shelf' sink sink' (of_run order parsed status shelf shelf' sink sink' here done);
       status_done = done_cause status parsed shelf shelf' sink sink' done;
+      status_done_halted = halted_cause status parsed shelf shelf' sink sink' done;
       status_budget_spent = budget_cause status parsed shelf shelf' sink sink' done;
       status_usage = usage_cause status parsed shelf shelf' sink sink' done;
       status_absent = absent_cause status parsed shelf shelf' sink sink' done;
