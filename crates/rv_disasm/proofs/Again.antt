@@ -1,24 +1,24 @@
 -- Operands that are printed are read again.
 use Rattle.std.proofs.Common.{◌≡◌, ℕ, zero, suc, ◌+◌, ◌-◌, ◌*◌, ◌/◌, ◌%◌, ◌^◌, ◌<◌, ◌≤◌, List, [], ◌∷◌, ◌++◌, length, Option, Some, None, Bool, true, false, cond, refl, sym, ap, subst, ◌∙◌, arith, lit<}
-use Rattle.std.specs.Prelude.{nat_lt, nat_le, ◌&&◌, ◌||◌, ◌==◌, ℤ, pos, negsuc, ◌-ℤ◌, nat_abs}
+use Rattle.std.specs.Prelude.{nat_lt, nat_le, ◌&&◌, ◌==◌, ℤ, pos, negsuc, ◌-ℤ◌, nat_abs}
 use Rattle.std.specs.List.{flat_map}
-use Rattle.std.proofs.lemmas.Bool.{and_parts, and_from, cond-true, cond-false, ltb-true, ltb-false, lt-ltb, leb-true, or_right, eqb-true, agree_below, agree_below_at}
+use Rattle.std.proofs.lemmas.Bool.{and_parts, and_from, cond-true, cond-false, ltb-true, ltb-false, lt-ltb, leb-true, or_right, agree_below, agree_below_at}
 use Rattle.std.proofs.lemmas.Bool.Decides.{nat_tests}
 use Rattle.std.proofs.lemmas.Int.{ints}
 use Rattle.hart_words.specs.TwosComplement.{signed_value}
-use Rattle.asm_text.specs.Names.{register_of, register_name, csr_of, csr_name}
-use Rattle.asm_text.specs.Words.{Word, NameWord, NumberWord, MarkWord}
-use Rattle.asm_text.specs.Pieces.{Piece, NamePiece, DecimalPiece, HexPiece, words_in, is_name, is_mark, is_loose, starts_loose, are_apart, IsReadable, AreReadable}
+use Rattle.asm_text.specs.Names.{register_name, csr_name}
+use Rattle.asm_text.specs.Words.{Word, NameWord, NumberWord}
+use Rattle.asm_text.specs.Pieces.{NamePiece, HexPiece, words_in, is_name, is_mark, is_loose, starts_loose, are_apart, IsReadable, AreReadable}
 use Rattle.asm_text.specs.declared.token_kind.TokenKind.{TokenKind}
 use Rattle.asm_text.specs.declared.token_kind.TokenKind.TheVariants.{Name, Number, Comma, Colon, Open, Close}
 use Rattle.asm_text.proofs.NameLaws.{register_again, csr_again, is_number, meant}
 use Rattle.asm_forms.specs.Operands.{Operands, Given, Near}
-use Rattle.asm_forms.specs.Fields.{set_of, signed_word, unsigned_word, any_word, with_rd, with_rs1, with_rs2, with_csr, with_amount, with_number, as_given, as_upper, as_near, read_field, read_item, read_items, is_marked, option_then, csr_in, set_in, in_word}
+use Rattle.asm_forms.specs.Fields.{set_of, signed_word, with_rd, with_rs1, with_rs2, with_csr, with_amount, with_number, as_given, as_upper, as_near, read_field, read_items, is_marked, option_then, set_in}
 use Rattle.asm_forms.specs.declared.field.Field.{Field}
 use Rattle.asm_forms.specs.declared.field.Field.TheVariants.{Rd, Rs1, Rs2, Csr, Source, Pred, Succ, Signed, Below, Digits, Upper, Amount, Word as AnyWord, Label, Address, Target}
 use Rattle.asm_forms.specs.declared.item.Item.{Item}
 use Rattle.asm_forms.specs.declared.item.Item.TheVariants.{Operand, Mark}
-use Rattle.rv_disasm.specs.Printing.{letters, set_piece, csr_by, field_piece, mark_pieces, items_pieces}
+use Rattle.rv_disasm.specs.Printing.{letters, set_piece, csr_by, field_piece, items_pieces}
 use Rattle.rv_disasm.specs.Fitting.{is_word, is_near_zero, field_fits, starts_with_mark, items_fit}
 use Rattle.rv_disasm.specs.declared.values.Values.{Values}
 

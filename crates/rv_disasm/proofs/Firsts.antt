@@ -11,7 +11,7 @@ use Rattle.rvc_encoding.specs.Rows.{spelled16}
 use Rattle.rv_disasm.specs.Printing.{line_pieces}
 use Rattle.rv_disasm.specs.Listing.{short_or, long_or, word_statement, long_first, half_first, first_statement, size_of, further, listed, behind, text_from, line_text}
 use Rattle.rv_disasm.specs.declared.statement.Statement.{Statement}
-use Rattle.rv_disasm.specs.declared.statement.Statement.TheVariants.{Byte, Half, Word, Long, Short}
+use Rattle.rv_disasm.specs.declared.statement.Statement.TheVariants.{Byte, Half}
 
 abbrev pub at_place : List ℕ → ℕ → Statement
 at_place bs at = first_statement (get_or bs at 0) (drop (at + 1) bs)

@@ -1,26 +1,24 @@
 -- What stands first in bytes fits, and its bytes are those bytes.
-use Rattle.std.proofs.Common.{◌≡◌, ℕ, zero, suc, ◌+◌, ◌-◌, ◌*◌, ◌/◌, ◌%◌, ◌^◌, ◌<◌, List, [], ◌∷◌, ◌++◌, length, take, drop, get_or, Option, Some, None, Bool, true, false, cond, refl, sym, ap, subst, ◌∙◌, arith, w16, w32, lit<}
+use Rattle.std.proofs.Common.{◌≡◌, ℕ, zero, suc, ◌+◌, ◌*◌, ◌/◌, ◌%◌, ◌^◌, ◌<◌, List, [], ◌∷◌, ◌++◌, length, take, drop, get_or, Option, Some, None, Bool, true, false, cond, refl, sym, ap, subst, ◌∙◌, arith, w16, w32, lit<}
 use Rattle.std.specs.Prelude.{◌==◌}
 use Rattle.std.specs.Int.{to_le_bytes}
 use Rattle.std.proofs.lemmas.List.{take-append-drop}
 use Rattle.std.proofs.lemmas.Bool.{lt-ltb}
 use Rattle.std.proofs.lemmas.Nat.{le_bytes_4}
 use Rattle.rv_encoding.specs.Rows.{spelled, canonical}
-use Rattle.rv_encoding.specs.Words.{word_of}
 use Rattle.rv_encoding.specs.declared.instruction.Ins.{Ins}
 use Rattle.rv_encoding.proofs.Apart.{spelled_spells}
 use Rattle.rv_encoding.proofs.FieldsFit.{spelled_fits}
 use Rattle.rv_encoding.proofs.IgnoredBits.{canonical_word, true_canonical}
 use Rattle.rvc_encoding.specs.Rows.{spelled16}
-use Rattle.rvc_encoding.specs.Halves.{half_of}
 use Rattle.rvc_encoding.specs.declared.compressed.Cins.{Cins}
 use Rattle.rvc_encoding.proofs.Apart.{spelled_spells as half_spelled_spells}
 use Rattle.rvc_encoding.proofs.Again.{half-spells, fits-spells}
 use Rattle.asm_forms.specs.Operations.{bytes_of}
 use Rattle.rv_disasm.specs.Fitting.{statement_fits}
-use Rattle.rv_disasm.specs.Listing.{short_or, long_or, word_statement, long_first, half_first, first_statement, size_of, further, listed, AreBytes}
+use Rattle.rv_disasm.specs.Listing.{short_or, long_or, word_statement, long_first, first_statement, size_of, further, listed, AreBytes}
 use Rattle.rv_disasm.specs.declared.statement.Statement.{Statement}
-use Rattle.rv_disasm.specs.declared.statement.Statement.TheVariants.{Byte, Half, Word, Long, Short}
+use Rattle.rv_disasm.specs.declared.statement.Statement.TheVariants.{Byte, Half, Word}
 use Rattle.rv_disasm.proofs.Sentences.{operation_for}
 
 -- a statement that puts these bytes

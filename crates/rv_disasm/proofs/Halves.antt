@@ -1,10 +1,9 @@
 -- What a compressed instruction's operands make, row by row.
-use Rattle.std.proofs.Common.{◌≡◌, ℕ, zero, suc, ◌+◌, ◌-◌, ◌*◌, ◌/◌, ◌%◌, ◌^◌, ◌<◌, List, [], ◌∷◌, Bool, true, false, cond, refl, sym, ap, subst, ◌∙◌, arith}
-use Rattle.std.specs.Prelude.{nat_lt, nat_le, ◌&&◌, ◌||◌, ◌==◌, not}
+use Rattle.std.proofs.Common.{◌≡◌, ℕ, zero, suc, ◌*◌, ◌/◌, ◌%◌, ◌^◌, ◌<◌, List, true, refl, sym, ap, subst, ◌∙◌, arith}
+use Rattle.std.specs.Prelude.{nat_lt, ◌&&◌, ◌==◌}
 use Rattle.std.specs.declared.result.Result.TheVariants.{Ok}
 use Rattle.std.proofs.lemmas.Bool.{and_parts, ltb-true, lt-ltb, eqb-true}
 use Rattle.std.proofs.lemmas.Bool.Decides.{nat_tests}
-use Rattle.hart_words.specs.Sign.{sign_extended}
 use Rattle.rvc_encoding.specs.Fields.{names, Short as ShortRegister, spells_value, none, number, amount, stack_sum, word_offset, jump, branch, stack_change, upper, stack_load, stack_store}
 use Rattle.rvc_encoding.specs.Rows.{row_of, allowed}
 use Rattle.rvc_encoding.specs.Fits.{fits_row}
@@ -16,11 +15,10 @@ use Rattle.rv_assembler.specs.Source.{resolved}
 use Rattle.asm_forms.specs.Forms.{stack_sum as stack_sum_items, short_load, short_store, nothing, short_signed, rd_short_signed, target, stack_change as stack_change_items, upper as upper_items, short_shift, rd_rs1, rd_target, stack_load as stack_load_items, rd as rd_items, stack_store as stack_store_items}
 use Rattle.asm_forms.specs.declared.item.Item.{Item}
 use Rattle.asm_forms.specs.declared.kind.Kind.TheVariants.{Short as ShortKind}
-use Rattle.asm_forms.specs.declared.operation.Operation.{Operation}
 use Rattle.asm_forms.specs.declared.operation.Operation.TheVariants.{Compressed}
 use Rattle.asm_forms.specs.declared.extent.Extent.TheVariants.{Takes}
 use Rattle.rv_disasm.specs.Shown.{values, row_for}
-use Rattle.rv_disasm.specs.Fitting.{is_word, is_near_zero, items_fit}
+use Rattle.rv_disasm.specs.Fitting.{is_word, is_near_zero}
 use Rattle.rv_disasm.proofs.Again.{three}
 use Rattle.rv_disasm.proofs.Shapes.{Makes, distance_back}
 

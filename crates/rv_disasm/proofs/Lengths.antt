@@ -1,25 +1,24 @@
 -- No source of an image is too long for the assembler.
 use Rattle.std.proofs.Common.{◌≡◌, ℕ, zero, suc, ◌+◌, ◌-◌, ◌*◌, ◌/◌, ◌%◌, ◌^◌, ◌<◌, ◌≤◌, List, [], ◌∷◌, ◌++◌, length, Option, Some, None, Bool, true, false, cond, refl, sym, ap, subst, ◌∙◌, arith, length-append, append_assoc, lit<, get_or, Fits, w8}
-use Rattle.std.specs.Prelude.{nat_lt, nat_le, ◌&&◌, ◌||◌, ◌==◌, ℤ, pos, negsuc}
-use Rattle.std.specs.List.{flat_map, AllByRecursion, list_all}
+use Rattle.std.specs.Prelude.{nat_lt, nat_le, ◌==◌, ℤ, pos, negsuc}
+use Rattle.std.specs.List.{flat_map, list_all}
 use Rattle.std.specs.Fmt.{decimal, signed_decimal}
 use Rattle.std.proofs.lemmas.Fmt.{length-decimal-le}
 use Rattle.std.proofs.Math.Facts.{Fits-lt-pow}
 use Rattle.std.proofs.lemmas.List.{append-nil}
 use Rattle.std.proofs.lemmas.List.Sums.{sum_by-cons}
 use Rattle.std.proofs.lemmas.List.Elements.{All-cons}
-use Rattle.std.proofs.lemmas.Bool.{and_parts, ltb-true, ltb-false, leb-true, leb-false, agree_below, agree_below_at, eqb-true, lt-ltb}
+use Rattle.std.proofs.lemmas.Bool.{and_parts, ltb-true, leb-true, agree_below, agree_below_at, lt-ltb}
 use Rattle.std.proofs.lemmas.Bool.Decides.{nat_tests}
 use Rattle.std.specs.declared.result.Result.TheVariants.{Ok}
 use Rattle.hart_words.specs.TwosComplement.{signed_value}
 use Rattle.asm_text.specs.Names.{Names, register_name, csr_name, csrs, name_in}
-use Rattle.asm_text.specs.Pieces.{Piece, printed, text_of, hex, hex_digits, is_mark}
+use Rattle.asm_text.specs.Pieces.{printed, text_of, hex, hex_digits, is_mark}
 use Rattle.asm_text.specs.declared.token_kind.TokenKind.{TokenKind}
 use Rattle.asm_text.specs.declared.token_kind.TokenKind.TheVariants.{Name, Number, Comma, Colon, Open, Close}
 use Rattle.hart_memory.specs.Place.{holds}
-use Rattle.hart_memory.specs.Image.{SegmentView, ImageView, byte_count, AreSound, AreApart, IsPlaced}
+use Rattle.hart_memory.specs.Image.{SegmentView, ImageView, byte_count, AreSound, IsPlaced}
 use Rattle.hart_memory.proofs.ImageLemmas.{byte_count-le}
-use Rattle.asm_forms.specs.Forms.{Row}
 use Rattle.rv_assembler.specs.Source.{assembled}
 use Rattle.rv_assembler.specs.declared.assembling.TheConstants.{MAX_SOURCE}
 use Rattle.rv_assembler.specs.declared.stretch.Stretch.{Stretch}
@@ -30,12 +29,12 @@ use Rattle.asm_forms.specs.declared.item.Item.TheVariants.{Operand, Mark}
 use Rattle.rv_disasm.specs.Shown.{row_of, values_of}
 use Rattle.rv_disasm.specs.Printing.{letters, set_piece, csr_by, field_piece, items_pieces, operands_pieces, row_pieces, line_pieces}
 use Rattle.rv_disasm.specs.Fitting.{is_word, is_near_zero, field_fits, starts_with_mark, items_fit, statement_fits}
-use Rattle.rv_disasm.specs.Listing.{line_text, behind, text_from, size_of, listed, listing, heading, entry_text, org_text, segment_text, image_text, AreBytes, AreAllBytes}
+use Rattle.rv_disasm.specs.Listing.{line_text, behind, text_from, listed, listing, heading, entry_text, org_text, segment_text, image_text, AreBytes, AreAllBytes}
 use Rattle.rv_disasm.specs.declared.statement.Statement.{Statement}
 use Rattle.rv_disasm.specs.declared.statement.Statement.TheVariants.{Entry, Org, Byte, Half, Word, Long, Short}
 use Rattle.rv_disasm.specs.declared.values.Values.{Values}
 use Rattle.rv_disasm.proofs.Again.{three, near_small, value_by, always}
-use Rattle.rv_disasm.proofs.Table.{field_bound, items_bound, line_bound}
+use Rattle.rv_disasm.proofs.Table.{field_bound, items_bound}
 use Rattle.rv_disasm.proofs.Sentences.{most_for, parts, statement_row, statement_makes}
 use Rattle.rv_disasm.proofs.Fronts.{Puts, ArePuts, listed_puts}
 use Rattle.rv_disasm.proofs.Running.{StandBeside, stretch_of, holds_small}

@@ -1,6 +1,6 @@
 -- The two passes over lines that statements were printed as.
-use Rattle.std.proofs.Common.{◌≡◌, ℕ, ◌+◌, ◌%◌, ◌^◌, ◌<◌, List, [], ◌∷◌, ◌++◌, length, map, Option, Some, None, Bool, true, false, cond, refl, sym, ap, subst, ◌∙◌, arith}
-use Rattle.std.specs.Prelude.{◌&&◌, not}
+use Rattle.std.proofs.Common.{◌≡◌, ℕ, ◌+◌, ◌^◌, ◌<◌, List, [], ◌∷◌, ◌++◌, map, Some, None, Bool, true, false, cond, refl, sym, ap, subst, ◌∙◌, arith}
+use Rattle.std.specs.Prelude.{not}
 use Rattle.std.specs.List.{AllByRecursion}
 use Rattle.std.specs.declared.result.Result.{Result}
 use Rattle.std.specs.declared.result.Result.TheVariants.{Ok, Err}
@@ -8,11 +8,11 @@ use Rattle.std.proofs.lemmas.Bool.{cond-true}
 use Rattle.asm_text.specs.Lexing.{lexed}
 use Rattle.asm_text.specs.Pieces.{printed}
 use Rattle.hart_memory.specs.Place.{holds}
-use Rattle.asm_forms.specs.Operations.{operation_fits, bytes_of, made, extent_of}
-use Rattle.asm_forms.specs.Statements.{Task, Reading, reading}
+use Rattle.asm_forms.specs.Operations.{operation_fits, bytes_of, made}
+use Rattle.asm_forms.specs.Statements.{Reading, reading}
 use Rattle.rv_assembler.specs.Symbols.{Symbol}
 use Rattle.rv_assembler.specs.Laying.{Laid, laid, is_full, grown, overlaps, shut}
-use Rattle.rv_assembler.specs.Source.{◌>>=◌, at_line, pass, Refusal, Passed, with_laying, first_read, first_line, Built, resolved, reached, moved, entry_by, with_operation, second_task, second_by, task_of, second_line}
+use Rattle.rv_assembler.specs.Source.{◌>>=◌, at_line, pass, Refusal, Passed, with_laying, first_read, first_line, Built, reached, moved, entry_by, with_operation, second_by, task_of, second_line}
 use Rattle.asm_forms.specs.declared.asm_why.AsmWhy.{AsmWhy}
 use Rattle.asm_forms.specs.declared.operation.Operation.{Operation}
 use Rattle.asm_forms.specs.declared.extent.Extent.{Extent}
@@ -22,7 +22,7 @@ use Rattle.rv_disasm.specs.Printing.{line_pieces}
 use Rattle.rv_disasm.specs.Listing.{behind, lines_from}
 use Rattle.rv_disasm.specs.declared.statement.Statement.{Statement}
 use Rattle.rv_disasm.specs.declared.statement.Statement.TheVariants.{Entry, Org, Byte, Half, Word, Long, Short}
-use Rattle.rv_disasm.proofs.Sentences.{operation_for, extent_for, MakesStatement, statement_makes, task_for, reading_for, line_again}
+use Rattle.rv_disasm.proofs.Sentences.{operation_for, extent_for, statement_makes, task_for, line_again}
 
 abbrev pub AllFit : List Statement → Type 0
 AllFit ss = AllByRecursion (λ s. statement_fits s ≡ true) ss

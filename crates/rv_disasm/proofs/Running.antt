@@ -1,23 +1,19 @@
 -- What the statements of an image come to.
-use Rattle.std.proofs.Common.{◌≡◌, ℕ, ◌+◌, ◌-◌, ◌^◌, ◌<◌, ◌≤◌, List, [], ◌∷◌, ◌++◌, length, map, Option, Some, None, Bool, true, false, cond, refl, sym, ap, ◌∙◌, arith, append_assoc}
-use Rattle.std.specs.Prelude.{nat_lt, nat_le, ◌&&◌, ◌||◌, not}
-use Rattle.std.specs.List.{list_any}
+use Rattle.std.proofs.Common.{◌≡◌, ℕ, ◌+◌, ◌^◌, ◌<◌, ◌≤◌, List, [], ◌∷◌, ◌++◌, length, map, Option, Some, None, Bool, true, false, refl, sym, ap, ◌∙◌, arith, append_assoc}
+use Rattle.std.specs.Prelude.{nat_le, ◌||◌, not}
 use Rattle.std.proofs.lemmas.List.{append-nil, length-append}
 use Rattle.std.proofs.lemmas.Bool.Decides.{nat_tests}
 use Rattle.std.proofs.lemmas.Bool.{cond-false, lt-leb, or_parts, or_from}
-use Rattle.std.specs.declared.result.Result.{Result}
-use Rattle.std.specs.declared.result.Result.TheVariants.{Ok, Err}
+use Rattle.std.specs.declared.result.Result.TheVariants.{Ok}
 use Rattle.hart_memory.specs.Place.{place, place_by, is_in_rom, is_in_ram, is_in_memory, holds}
 use Rattle.hart_memory.specs.Image.{SegmentView}
 use Rattle.hart_memory.specs.declared.image.TheConstants.{MAX_SEGMENTS}
-use Rattle.rv_assembler.specs.Laying.{Laid, laid, is_full, grow, grown, shut, are_apart, overlaps}
+use Rattle.rv_assembler.specs.Laying.{Laid, laid, grow, shut, are_apart, overlaps}
 use Rattle.asm_forms.specs.Operations.{bytes_of}
 use Rattle.rv_assembler.specs.Source.{◌>>=◌, Built, entry_by}
-use Rattle.asm_forms.specs.declared.asm_why.AsmWhy.{AsmWhy}
-use Rattle.asm_forms.specs.declared.asm_why.AsmWhy.TheVariants.{OutsideMemory, Overlap, TooLarge}
 use Rattle.rv_assembler.specs.declared.stretch.Stretch.{Stretch}
 use Rattle.asm_forms.specs.declared.extent.Extent.TheVariants.{Takes}
-use Rattle.rv_disasm.specs.Listing.{listed, AreBytes, size_of}
+use Rattle.rv_disasm.specs.Listing.{listed, AreBytes}
 use Rattle.rv_disasm.specs.declared.statement.Statement.{Statement}
 use Rattle.rv_disasm.specs.declared.statement.Statement.TheVariants.{Entry, Org, Byte, Half, Word, Long, Short}
 use Rattle.rv_disasm.proofs.Sentences.{extent_for, operation_for}

@@ -1,22 +1,18 @@
 -- A statement's line is read as the statement.
-use Rattle.std.proofs.Common.{◌≡◌, ℕ, suc, ◌+◌, ◌^◌, ◌<◌, ◌≤◌, List, [], ◌∷◌, ◌++◌, length, Option, Some, None, Bool, true, false, cond, refl, sym, ap, subst, ◌∙◌, arith, lit<}
-use Rattle.std.specs.Prelude.{nat_lt, nat_le, ◌&&◌, drop}
+use Rattle.std.proofs.Common.{◌≡◌, ℕ, ◌^◌, ◌<◌, ◌≤◌, List, [], ◌∷◌, ◌++◌, length, Option, Some, None, true, cond, refl, sym, ap, subst, ◌∙◌, arith, lit<}
+use Rattle.std.specs.Prelude.{nat_le, ◌&&◌}
 use Rattle.std.specs.List.{flat_map}
 use Rattle.std.specs.declared.result.Result.{Result}
-use Rattle.std.specs.declared.result.Result.TheVariants.{Ok, Err}
-use Rattle.std.proofs.lemmas.Bool.{and_parts, cond-true, ltb-true, leb-true}
+use Rattle.std.specs.declared.result.Result.TheVariants.{Ok}
+use Rattle.std.proofs.lemmas.Bool.{and_parts, cond-true, leb-true}
 use Rattle.asm_text.specs.Words.{Word, NameWord}
-use Rattle.asm_text.specs.Lexing.{lexed, spoken, Spoken}
-use Rattle.asm_text.specs.Pieces.{Piece, NamePiece, SpacePiece, printed, words_in, is_name, are_apart, AreReadable}
-use Rattle.asm_text.specs.declared.token_kind.TokenKind.TheVariants.{Colon}
-use Rattle.asm_text.specs.declared.lex_fault.LexFault.{LexFault}
+use Rattle.asm_text.specs.Lexing.{Spoken}
+use Rattle.asm_text.specs.Pieces.{NamePiece, printed, words_in, is_name, are_apart, AreReadable}
 use Rattle.asm_text.proofs.Rereading.{relexed}
-use Rattle.rv_encoding.specs.Fits.{can_be_spelled}
-use Rattle.rvc_encoding.specs.Fits.{fits_row}
-use Rattle.asm_forms.specs.Operands.{Operands, no_operands}
-use Rattle.asm_forms.specs.Operations.{made, operation_fits, extent_of, first_value}
-use Rattle.asm_forms.specs.Fields.{read_items, is_marked, label_in}
-use Rattle.asm_forms.specs.Forms.{Row, form}
+use Rattle.asm_forms.specs.Operands.{no_operands}
+use Rattle.asm_forms.specs.Operations.{made, operation_fits, first_value}
+use Rattle.asm_forms.specs.Fields.{label_in}
+use Rattle.asm_forms.specs.Forms.{Row}
 use Rattle.asm_forms.specs.Statements.{Task, task_by, task_or, read_form, task_named, some_task, statement_of, label_of, after_label, Reading, reading_of, reading_by, reading}
 use Rattle.asm_forms.specs.declared.asm_why.AsmWhy.{AsmWhy}
 use Rattle.asm_forms.specs.declared.item.Item.{Item}
@@ -27,16 +23,15 @@ use Rattle.asm_forms.specs.declared.operation.Operation.TheVariants.{Moves, Ente
 use Rattle.asm_forms.specs.declared.extent.Extent.{Extent}
 use Rattle.asm_forms.specs.declared.extent.Extent.TheVariants.{Jumps, Marks, Takes}
 use Rattle.rv_disasm.specs.Shown.{kind_of, values_of, row_for, row_of}
-use Rattle.rv_disasm.specs.Printing.{field_piece, items_pieces, operands_pieces, row_pieces, line_pieces}
+use Rattle.rv_disasm.specs.Printing.{operands_pieces, row_pieces, line_pieces}
 use Rattle.rv_disasm.specs.Fitting.{field_fits, starts_with_mark, items_fit, statement_fits, room_for}
-use Rattle.rv_disasm.specs.Listing.{size_of}
 use Rattle.rv_disasm.specs.declared.statement.Statement.{Statement}
 use Rattle.rv_disasm.specs.declared.statement.Statement.TheVariants.{Entry, Org, Byte, Half, Word as WordStatement, Long, Short}
 use Rattle.rv_disasm.specs.declared.values.Values.{Values}
-use Rattle.rv_disasm.proofs.Again.{three, given_items, reads_field, reads_items, words_of_items, parted}
+use Rattle.rv_disasm.proofs.Again.{three, reads_field, reads_items, words_of_items, parted}
 use Rattle.rv_disasm.proofs.Shapes.{given, Makes, makes_entry, makes_org, makes_word, makes_half, makes_byte}
-use Rattle.rv_disasm.proofs.Table.{items_bound, line_bound, starts_plain, is_sound, HaveWords, IsRow, entry_row, org_row, byte_row, half_row, word_row, long_row, short_row, long}
-use Rattle.rv_disasm.proofs.Halves.{cins, half}
+use Rattle.rv_disasm.proofs.Table.{line_bound, starts_plain, is_sound, HaveWords, IsRow, entry_row, org_row, byte_row, half_row, word_row, long_row, short_row, long}
+use Rattle.rv_disasm.proofs.Halves.{half}
 
 -- what the line does, as the assembler says it
 abbrev pub operation_for : Statement → Operation

@@ -1,12 +1,11 @@
 -- The rows that statements are printed by, one by one.
-use Rattle.std.proofs.Common.{◌≡◌, ℕ, zero, suc, ◌+◌, ◌*◌, ◌^◌, ◌<◌, ◌≤◌, List, [], ◌∷◌, length, Bool, true, false, cond, refl, sym, subst, arith}
+use Rattle.std.proofs.Common.{◌≡◌, ℕ, zero, suc, ◌+◌, ◌^◌, ◌<◌, List, [], ◌∷◌, length, Bool, true, false, cond, refl, sym, subst, arith}
 use Rattle.std.specs.Prelude.{nat_lt, nat_le, ◌&&◌, codes}
 use Rattle.std.specs.declared.result.Result.{Result}
 use Rattle.std.specs.declared.result.Result.TheVariants.{Err}
-use Rattle.std.proofs.lemmas.Bool.{and_parts}
 use Rattle.asm_text.specs.Words.{Word}
 use Rattle.asm_text.specs.Pieces.{is_name}
-use Rattle.rv_encoding.specs.Fits.{is_register, is_signed, is_upper, is_offset, can_be_spelled}
+use Rattle.rv_encoding.specs.Fits.{is_register, is_signed, can_be_spelled}
 use Rattle.rv_encoding.specs.declared.instruction.Ins.{Ins}
 use Rattle.rv_encoding.specs.declared.instruction.Ins.TheVariants.{Lui, Auipc, Jal, Jalr, Branch, Load, Store, Imm, Reg, Fence, Ecall, Ebreak, Mret, Wfi, Csr}
 use Rattle.rv_encoding.specs.declared.operations.BranchOp.{BranchOp}
@@ -33,7 +32,6 @@ use Rattle.asm_forms.specs.declared.item.Item.{Item}
 use Rattle.asm_forms.specs.declared.item.Item.TheVariants.{Operand, Mark}
 use Rattle.asm_forms.specs.declared.kind.Kind.{Kind}
 use Rattle.asm_forms.specs.declared.kind.Kind.TheVariants.{Org as OrgKind, Entry as EntryKind, Byte as ByteKind, Half as HalfKind, Word as WordKind, Lui as LuiKind, Auipc as AuipcKind, Jal as JalKind, Jalr as JalrKind, Branch as BranchKind, Load as LoadKind, Store as StoreKind, Imm as ImmKind, Reg as RegKind, Fence as FenceKind, Csr as CsrKind, Fixed as FixedKind, Short as ShortKind}
-use Rattle.asm_forms.specs.declared.operation.Operation.{Operation}
 use Rattle.asm_forms.specs.declared.operation.Operation.TheVariants.{Long as LongOperation}
 use Rattle.asm_forms.specs.declared.extent.Extent.TheVariants.{Takes}
 use Rattle.rv_disasm.specs.Shown.{long_kind, long_values, row_for}

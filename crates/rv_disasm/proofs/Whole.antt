@@ -1,8 +1,8 @@
 -- An image's source is assembled to the image.
-use Rattle.std.proofs.Common.{◌≡◌, ℕ, zero, suc, ◌+◌, ◌^◌, ◌<◌, ◌≤◌, List, [], ◌∷◌, ◌++◌, length, map, take, drop, get_or, Option, Some, None, Bool, true, false, cond, refl, sym, ap, subst, ◌∙◌, arith, append_assoc, lit<}
-use Rattle.std.specs.Prelude.{nat_lt, nat_le, ◌||◌, not, All, option_map, slice_get}
-use Rattle.std.specs.List.{flat_map, AllByRecursion, AllPairs, list_any, slice_index_or}
-use Rattle.std.proofs.lemmas.List.{append-nil, length-append}
+use Rattle.std.proofs.Common.{◌≡◌, ℕ, zero, suc, ◌+◌, ◌^◌, ◌<◌, ◌≤◌, List, [], ◌∷◌, ◌++◌, length, map, drop, Option, Some, None, true, false, refl, sym, ap, subst, ◌∙◌, arith, append_assoc, lit<}
+use Rattle.std.specs.Prelude.{nat_lt, ◌||◌, not, All, option_map, slice_get}
+use Rattle.std.specs.List.{flat_map, AllPairs, slice_index_or}
+use Rattle.std.proofs.lemmas.List.{length-append}
 use Rattle.std.proofs.lemmas.List.Elements.{All-head, All-tail}
 use Rattle.std.proofs.lemmas.List.Folds.{list_any-append}
 use Rattle.std.proofs.Math.Seq.{take-append_seam, drop-append_seam}
@@ -10,25 +10,24 @@ use Rattle.std.proofs.lemmas.Bool.{cond-true, cond-false, lt-ltb, le-ltb, or_fro
 use Rattle.std.proofs.lemmas.Bool.Decides.{nat_tests}
 use Rattle.std.specs.declared.result.Result.{Result}
 use Rattle.std.specs.declared.result.Result.TheVariants.{Ok}
-use Rattle.hart_memory.specs.Place.{holds}
 use Rattle.hart_memory.specs.Image.{SegmentView, ImageView, is_apart, IsPlaced, AreApart, AreSound}
 use Rattle.rv_assembler.specs.Laying.{are_apart, overlaps, shut, laid}
 use Rattle.rv_assembler.specs.Lines.{lines_of}
 use Rattle.asm_forms.specs.Operations.{bytes_of}
-use Rattle.rv_assembler.specs.Source.{◌>>=◌, pass, Passed, Built, Refusal, Program, with_laying, nothing_passed, nothing_built, first_line, second_line, cut_segments, image_of, ended, of_lines, assembled}
+use Rattle.rv_assembler.specs.Source.{◌>>=◌, pass, Passed, Built, Refusal, Program, with_laying, nothing_passed, nothing_built, second_line, cut_segments, image_of, ended, of_lines, assembled}
 use Rattle.rv_assembler.specs.declared.assembling.TheConstants.{MAX_SOURCE}
 use Rattle.rv_assembler.specs.declared.stretch.Stretch.{Stretch}
 use Rattle.rv_disasm.specs.Shown.{row_for}
 use Rattle.rv_disasm.specs.Printing.{field_piece, row_pieces, line_pieces}
-use Rattle.rv_disasm.specs.Fitting.{is_word, statement_fits}
-use Rattle.rv_disasm.specs.Listing.{line_text, behind, lines_from, text_from, listed, listing, entry_text, org_text, segment_text, image_text, AreBytes, AreAllBytes}
+use Rattle.rv_disasm.specs.Fitting.{statement_fits}
+use Rattle.rv_disasm.specs.Listing.{line_text, behind, lines_from, text_from, listed, listing, entry_text, org_text, segment_text, image_text, AreAllBytes}
 use Rattle.rv_disasm.specs.declared.statement.Statement.{Statement}
 use Rattle.rv_disasm.specs.declared.statement.Statement.TheVariants.{Entry, Org, Byte, Half, Word, Long, Short}
-use Rattle.rv_disasm.proofs.Sentences.{MakesStatement, statement_makes, pieces_of}
+use Rattle.rv_disasm.proofs.Sentences.{statement_makes, pieces_of}
 use Rattle.rv_disasm.proofs.TextLines.{AllReadable, lines_again}
 use Rattle.rv_disasm.proofs.Fronts.{Puts, ArePuts, listed_puts}
-use Rattle.rv_disasm.proofs.Passes.{AllFit, Places, run_first, run_second, built_by, lines_at, first_passes, second_passes}
-use Rattle.rv_disasm.proofs.Running.{segments_statements, stretch_of, StandBeside, holds_small, between, Comes, comes, contents, Adds, adds}
+use Rattle.rv_disasm.proofs.Passes.{AllFit, Places, run_second, built_by, lines_at, first_passes, second_passes}
+use Rattle.rv_disasm.proofs.Running.{segments_statements, stretch_of, StandBeside, holds_small, comes, contents, adds}
 
 -- ---- the text
 

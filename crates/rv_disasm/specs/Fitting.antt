@@ -1,5 +1,5 @@
 -- Which statements can be printed so that they are read again.
-use Rattle.std.specs.Prelude.{ℕ, ◌+◌, ◌-◌, ◌%◌, ◌^◌, Bool, true, false, ◌&&◌, ◌||◌, nat_lt, nat_le, ◌==◌, List, [], ◌∷◌}
+use Rattle.std.specs.Prelude.{ℕ, ◌+◌, ◌%◌, ◌^◌, Bool, true, false, ◌&&◌, ◌||◌, nat_lt, nat_le, ◌==◌, List, [], ◌∷◌}
 use Rattle.asm_text.specs.Pieces.{is_mark}
 use Rattle.rv_encoding.specs.Fits.{can_be_spelled}
 use Rattle.rvc_encoding.specs.Fits.{fits_row}

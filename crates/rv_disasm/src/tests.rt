@@ -83,10 +83,10 @@ fn targets_are_addresses(rt: HostRuntime) {
 
 #[test]
 fn a_whole_image(rt: HostRuntime) {
-    let source = ".entry 64\n.org 0x80000000\n.byte 72\n.byte 105\n.byte 10\n.org 64\nc.j 64\n";
+    let source = ".entry 64\n.org 0x20000000\n.byte 72\n.byte 105\n.byte 10\n.org 64\nc.j 64\n";
     let assembled = assemble(rt.alloc(), source.as_bytes()).expect(&rt, "an image");
     let text = disassemble_image(rt.alloc(), &assembled.image).expect(&rt, "memory");
     let want =
-        ".entry 0x00000040\n.org 0x80000000\n.half 0x6948\n.byte 0x0A\n.org 0x00000040\nc.j 0x00000040\n";
+        ".entry 0x00000040\n.org 0x20000000\n.half 0x6948\n.byte 0x0A\n.org 0x00000040\nc.j 0x00000040\n";
     assert_eq!(rt; text.bytes(), want.as_bytes());
 }

@@ -1,9 +1,7 @@
-use Rattle.std.proofs.Common.{◌≡◌, ℕ, ◌+◌, ◌^◌, ◌<◌, ◌≤◌, ◌++◌, length, drop, ap, sym, ◌∙◌, arith, append_assoc}
-use Rattle.std.specs.List.{flat_map}
+use Rattle.std.proofs.Common.{◌^◌, arith}
 use Rattle.std.proofs.lemmas.Bool.{lt-ltb}
 use Rattle.std.proofs.lemmas.Result.{on_ok_weaker}
 use Rattle.rv_disasm.specs.Fitting.{statement_fits}
-use Rattle.rv_disasm.specs.Listing.{segment_text, org_text, listing}
 use Rattle.rv_disasm.proofs.Whole.{segment_at, segment_on, segment_small}
 use Rattle.rv_disasm.proofs.disassembly.push_segment.Goals as goal
 

@@ -1,8 +1,8 @@
-use Rattle.std.proofs.Common.{◌≡◌, ℕ, ◌+◌, List, [], ◌∷◌, ◌++◌, get_or, drop, ap, sym, ◌∙◌, arith, append_assoc}
+use Rattle.std.proofs.Common.{◌≡◌, ◌+◌, ◌++◌, get_or, drop, ap, sym, ◌∙◌, arith, append_assoc}
 use Rattle.std.proofs.lemmas.List.{append-nil}
 use Rattle.rv_disasm.specs.Printing.{line_pieces}
-use Rattle.rv_disasm.specs.Listing.{first_statement, size_of, listed, text_from, line_text, listing}
-use Rattle.rv_disasm.proofs.Firsts.{next_line, at_end, at_place, first_steps}
+use Rattle.rv_disasm.specs.Listing.{size_of, listed, text_from, line_text, listing}
+use Rattle.rv_disasm.proofs.Firsts.{next_line, at_end, first_steps}
 use Rattle.rv_disasm.proofs.listing.push_listing.Goals as goal
 
 pub loop-at-smaller : goal.loop-at-smaller
