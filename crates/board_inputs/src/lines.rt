@@ -10,8 +10,8 @@ ghost use Rattle.board_inputs.specs.declared.line_meaning.LineMeaning.TheVariant
 use crate::cuts::cut_at;
 use crate::line_meaning::LineMeaning;
 use crate::numbers::number;
-use device_model::Stimulus;
-use hart_board::{Event, FIRST_DEVICE_INPUT, MOST_DEVICE_LINES, What};
+use device_model::{MAX_LINES, Stimulus};
+use hart_board::{Event, FIRST_DEVICE_INPUT, What};
 
 /// The greatest count.
 const MAX_COUNT: u32 = 1_000_000_000;
@@ -53,8 +53,7 @@ fn stimulus(name: &[u8], text: &[u8]) -> Option<Stimulus>
 fn is_open(input: u32, inputs: u32) -> bool
     ensures { result ≡ is_open inputs input }
 {
-    input < inputs
-        && (input < FIRST_DEVICE_INPUT || input >= FIRST_DEVICE_INPUT + MOST_DEVICE_LINES)
+    input < inputs && (input < FIRST_DEVICE_INPUT || input >= FIRST_DEVICE_INPUT + MAX_LINES)
 }
 
 // A change of an input's line, by its name and its two numbers.

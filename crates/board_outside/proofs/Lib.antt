@@ -1,3 +1,4 @@
 pub mod Writing
 mod CallsToCome
 mod Pieces
+mod CountsSoFar

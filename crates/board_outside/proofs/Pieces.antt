@@ -1,5 +1,5 @@
 -- A text that a writer takes piece by piece.
-use Rattle.std.proofs.Common.{◌≡◌, ℕ, ◌+◌, zero, suc, List, [], ◌∷◌, ◌++◌, take, drop, refl, ap, zero-add, suc-add, sym, Option, length, length-drop, arith, ◌-◌}
+use Rattle.std.proofs.Common.{◌≡◌, ℕ, ◌+◌, zero, suc, List, [], ◌∷◌, ◌++◌, take, drop, refl, ap, zero-add, suc-add, sym, Option, length, length-drop, arith, ◌-◌, ◌≤◌}
 use Rattle.std.proofs.lemmas.List.{take_all}
 use Rattle.std.specs.Io.KnownBytes.{Appends}
 use Rattle.board_outside.proofs.Writing.{appends_both}
@@ -21,3 +21,7 @@ pub appends_more : (o m n : Option (List ℕ)) (i k : ℕ) (xs : List ℕ) → A
 appends_more o m n i k xs p q =
     let rest : Appends m n (take k (drop i xs)) = rw (rest_is_all i xs) at q in
     rw (take_on i k xs) (appends_both o m n (take i xs) (take k (drop i xs)) p rest)
+
+-- some of the others end within the text
+pub within : (i k : ℕ) (xs : List ℕ) → i ≤ length xs → k ≤ length (take (length xs - i) (drop i xs)) → i + k ≤ length xs
+within i k xs inside more = let rest : k ≤ length (drop i xs) = rw (rest_is_all i xs) at more in omega (arith, length-drop i xs, rest)

@@ -1,5 +1,5 @@
 // A sink that keeps nothing.
-ghost use Rattle.std.specs.Prelude.{None};
+ghost use Rattle.std.specs.Prelude.{◌≡◌, None};
 
 use crate::sink::{Sink, SinkFault};
 
@@ -8,7 +8,9 @@ use crate::sink::{Sink, SinkFault};
 pub struct Quiet;
 
 impl Quiet {
-    pub fn new() -> Quiet {
+    pub fn new() -> Quiet
+        ensures { ⟦<Quiet as Sink>⟧.told result ≡ record { written = None; room = None; faults = 0 } }
+    {
         Quiet
     }
 }

@@ -1,4 +1,6 @@
 use super::*;
+use crate::puts::Puts;
+use crate::reads::Reads;
 use crate::streams::{read_front, write_whole};
 use hart_words::WantOfMemory;
 use std::alloc::Global;
@@ -45,14 +47,24 @@ impl Read for Slow {
 
 #[test]
 fn streams_stop_where_nothing_is_taken_or_given(rt: HostRuntime) {
-    assert!(rt; write_whole(&mut Narrow { room: 5 }, b"hello"));
-    assert!(rt; !write_whole(&mut Narrow { room: 4 }, b"hello"));
+    let mut puts = Puts::new();
+    assert_eq!(rt;
+        write_whole(&mut puts, &mut Narrow { room: 5 }, b"hello"),
+        Ok(())
+    );
+    assert_eq!(rt;
+        write_whole(&mut puts, &mut Narrow { room: 4 }, b"hello"),
+        Err(SinkFault::Failed)
+    );
+    assert_eq!(rt; puts.bytes(), 9);
+    let mut reads = Reads::new();
     for (left, most, want) in [(5000, 4100, 4100), (3, 10, 3), (3, 0, 0)] {
-        match read_front(rt.alloc(), &mut Slow { left }, most) {
+        match read_front(&mut reads, rt.alloc(), &mut Slow { left }, most) {
             Ok(bytes) => assert_eq!(rt; bytes.len(), want),
             Err(_) => assert!(rt; false),
         }
     }
+    assert_eq!(rt; (reads.bytes(), reads.ends()), (4103, 1));
 }
 
 fn fetched(
@@ -89,6 +101,7 @@ fn files_of_the_system(rt: HostRuntime) -> Result<(), Fail> {
             "{name} {limit}"
         );
     }
+    assert_eq!(rt; (shelf.bytes_read(), shelf.ends_met()), (26, 1));
     Ok(())
 }
 
@@ -129,7 +142,9 @@ fn bytes_in_memory(rt: HostRuntime) -> Result<(), WantOfMemory> {
 #[test]
 fn nothing_is_kept_and_standard_output_takes_all(rt: HostRuntime) {
     assert_eq!(rt; Quiet::new().put(b"gone"), Ok(()));
-    assert_eq!(rt; StdSink::new(&rt).put(b"written\n"), Ok(()));
+    let mut out = StdSink::new(&rt);
+    assert_eq!(rt; out.put(b"written\n"), Ok(()));
+    assert_eq!(rt; out.bytes_taken(), 8);
 }
 
 #[test]

@@ -7,12 +7,11 @@ ghost use Rattle.hart_board.specs.State.{State, reset};
 ghost use Rattle.hart_board.specs.Outside.{reset_outside};
 ghost use Rattle.hart_board.specs.Event.{is_free, applied};
 
-use crate::outside::{MOST_DEVICE_LINES, Outside};
-use crate::region::REGION_LEN;
+use crate::outside::Outside;
 use crate::what::What;
 use clic_select::Selector;
 use csr_file::Csrs;
-use device_model::Device;
+use device_model::{Device, MAX_LINES, REGION_LEN};
 use hart_memory::Banks;
 use hart_words::{Regs, WantOfMemory};
 use std::alloc::Global;
@@ -46,7 +45,7 @@ impl<D: Device> Board<D> {
     /// The board at reset, with this device, whose lines are sampled once.
     pub fn new(alloc: Global, device: D) -> Result<Board<D>, WantOfMemory>
         requires place { D.means.high (D.state device) ≤ REGION_LEN }
-        requires lines { length (D.means.lines (D.state device)) ≤ MOST_DEVICE_LINES }
+        requires lines { length (D.means.lines (D.state device)) ≤ MAX_LINES }
         ensures { IfOk result (λ board. board ≡ reset (reset_outside D.means (D.state device))) }
     {
         Ok(Board {

@@ -2,7 +2,7 @@
 ghost use Rattle.std.specs.Prelude.{◌≡◌, ℕ, List, None};
 ghost use Rattle.hart_board.specs.State.{State};
 ghost use Rattle.hart_board.specs.Step.{Turn, step};
-ghost use Rattle.hart_board.specs.Kinds.{IsStep, KeepsAll, HasLinesOf};
+ghost use Rattle.hart_board.specs.Kinds.{IsStep, IsOfOneKindAlone, KeepsAll, HasLinesOf};
 ghost use Rattle.hart_board.specs.Run.{run_of, steps_of};
 ghost use Rattle.hart_board.specs.Steps.{EndsAs, board_at, told_to};
 ghost use Rattle.hart_board.specs.declared.event.Event.{Event};
@@ -10,10 +10,12 @@ ghost use Rattle.hart_board.specs.declared.stepped.Stepped.TheVariants.{Raised};
 
 use device_model::Device;
 
-/// In each state that hasn't halted exactly one kind of step is possible, and the step is of it.
+/// In each state that hasn't halted exactly one kind of step is possible, and the step is of it: the
+/// kinds exclude each other.
 pub fn step_is_of_one_kind<D: Device>()
     ensures is { (s : State) → D.means.halted s.outside.device ≡ None → IsStep D.means s (step D.means s) }
     ensures only { (s : State) (turn : Turn) → D.means.halted s.outside.device ≡ None → IsStep D.means s turn → turn ≡ step D.means s }
+    ensures alone { (s : State) (turn : Turn) → IsOfOneKindAlone D.means s turn }
 {}
 
 /// An exception keeps the registers, memory, the controller and the device.

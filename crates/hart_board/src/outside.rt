@@ -13,12 +13,12 @@ ghost use Rattle.hart_board.specs.Region.{region};
 ghost use Rattle.hart_board.specs.Outside.{lines_set, with_device, reset_outside, device_loaded, loaded_in, stored_in};
 
 use crate::controller::{load_bytes, store_bytes};
-use crate::region::{REGION_LEN, Region, region_of};
+use crate::region::{Region, region_of};
 use clic_regs::INPUTS;
 use clic_select::{Choice, Selector};
 use clic_trap::{Entered, SystemEnd, enter_interrupt, system};
 use csr_file::Csrs;
-use device_model::{Device, Stimulus};
+use device_model::{Device, MAX_LINES, REGION_LEN, Stimulus};
 use hart_memory::Banks;
 use hart_words::{Regs, WantOfMemory};
 use rv_encoding::Ins;
@@ -27,9 +27,6 @@ use std::marker::Model;
 
 /// The input that the device's first line drives.
 pub const FIRST_DEVICE_INPUT: u32 = 16;
-
-/// The greatest number of lines of a device.
-pub const MOST_DEVICE_LINES: u32 = 8;
 
 /// The interrupt controller and the device.
 #[derive(Drop)]
@@ -40,18 +37,19 @@ pub struct Outside<D: Device> {
 
 impl<D: Device> Model for Outside<D> {
     ghost use Rattle.std.specs.Prelude.{◌≤◌, length};
+    ghost use Rattle.device_model.specs.declared.device.TheConstants.{MAX_LINES};
     ghost use Rattle.hart_board.specs.State.{Outside as OutsideState};
 
     ghost Value = { OutsideState };
 
     ghost view = { λ o. record { clic = o.select; device = D.state o.device } };
 
-    ghost invariant = { λ o. length (D.means.lines (D.state o.device)) ≤ 8 };
+    ghost invariant = { λ o. length (D.means.lines (D.state o.device)) ≤ MAX_LINES };
 }
 
 // Sets the device's lines as inputs.
 fn sample<D: Device>(select: &mut Selector, device: &D)
-    requires { length (D.means.lines (D.state device.now)) ≤ MOST_DEVICE_LINES }
+    requires { length (D.means.lines (D.state device.now)) ≤ MAX_LINES }
     ensures { select.new ≡ lines_set FIRST_DEVICE_INPUT (D.means.lines (D.state device.now)) select.old }
 {
     for k in 0..device.line_count() {
@@ -63,7 +61,7 @@ impl<D: Device> Outside<D> {
     /// The controller at reset, and this device with its lines sampled.
     #[tactic(auto, unfolding(crate::specs::Outside::with_device))]
     pub fn new(alloc: Global, device: D) -> Result<Outside<D>, WantOfMemory>
-        requires { length (D.means.lines (D.state device)) ≤ MOST_DEVICE_LINES }
+        requires { length (D.means.lines (D.state device)) ≤ MAX_LINES }
         ensures { IfOk result (λ o. o ≡ reset_outside D.means (D.state device)) }
     {
         let mut select = Selector::new(alloc)?;

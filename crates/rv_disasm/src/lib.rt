@@ -7,6 +7,8 @@ mod listing;
 mod printing;
 mod shown;
 mod statement;
+#[cfg(test)]
+mod tests;
 mod values;
 
 pub use disassembly::{disassemble, disassemble_image};

@@ -9,9 +9,9 @@ ghost use Rattle.asm_text.specs.Names.{csr_name};
 use crate::shown::{form_for, kind_of, values_of};
 use crate::statement::Statement;
 use crate::values::Values;
+use asm_forms::{Field, Item};
 use asm_text::{TokenKind, csr_name, put_decimal, put_hexadecimal, register_name};
 use hart_words::{LINE_LEN, Line, field, signed};
-use asm_forms::{Field, Item};
 
 fn put_letter(line: &mut Line, text: &str, set: u8, bit: u32)
     requires small { bit < 4 }

@@ -66,7 +66,10 @@ fn long_values(instruction: &Ins) -> Values
         Ins::Jal { rd, offset } => values(rd, 0, 0, 0, offset),
         Ins::Jalr { rd, rs1, imm } => values(rd, rs1, 0, 0, imm),
         Ins::Branch {
-            rs1, rs2, offset, ..
+            rs1,
+            rs2,
+            offset,
+            ..
         } => values(0, rs1, rs2, 0, offset),
         Ins::Load { rd, rs1, imm, .. } => values(rd, rs1, 0, 0, imm),
         Ins::Store { rs1, rs2, imm, .. } => values(0, rs1, rs2, 0, imm),
@@ -74,7 +77,10 @@ fn long_values(instruction: &Ins) -> Values
         Ins::Reg { rd, rs1, rs2, .. } => values(rd, rs1, rs2, 0, 0),
         Ins::Fence { pred, succ } => values(0, pred, succ, 0, 0),
         Ins::Csr {
-            rd, source, csr, ..
+            rd,
+            source,
+            csr,
+            ..
         } => values(rd, source, 0, csr, 0),
         Ins::Ecall | Ins::Ebreak | Ins::Mret | Ins::Wfi => values(0, 0, 0, 0, 0),
     }
