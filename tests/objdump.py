@@ -1,9 +1,10 @@
 #!/usr/bin/env python3
-"""Compares which words and half-words are instructions with GNU objdump for RISC-V, where that is installed.
+"""Compares instructions with GNU objdump for RISC-V, where that is installed.
 
-Each is run alone for one step with a trace: an exception of code 2 says that it is none. Control and status
-instructions are left out, since a register that isn't there gives the same code. docs/DECISIONS.md says where the two
-differ and why. With the argument `all` every half-word is tried, else some thousands.
+Which words and half-words are instructions: each is run alone for one step with a trace, and an exception of code 2
+says that it is none. Control and status instructions are left out, since a register that isn't there gives the same
+code. What the operands of instructions are: `disasm` lists them all. docs/DECISIONS.md says where the two differ and
+why. With the argument `all` every half-word is tried, else some thousands.
 """
 import os
 import random
@@ -96,6 +97,62 @@ def compare(tool, values, width, folder):
     return wrong
 
 
+def listed(values, width, folder):
+    """The mnemonic and the operands that `disasm` prints for each value, which stand one after another from 0 on."""
+    path = os.path.join(folder, 'listed.img')
+    bits = b''.join(struct.pack('<I' if width == 4 else '<H', value) for value in values)
+    with open(path, 'wb') as file:
+        file.write(b'CLC1' + struct.pack('<IIII', 0, 1, 0, len(bits)) + bits)
+    text = subprocess.run([PROGRAM, 'disasm', path], capture_output=True, text=True, check=True).stdout
+    lines = [line.partition(' ') for line in text.split('\n')[2:-1]]
+    return [(name, operands) for name, space, operands in lines]
+
+
+def parts_of(operands):
+    """Names as they stand, and numbers as words."""
+    parts = [part for part in re.split(r'[ ,()]+', operands.split('<')[0].split('#')[0]) if part]
+    numbers = [re.fullmatch(r'-?(0x[0-9a-fA-F]+|[0-9]+)', part) for part in parts]
+    return [int(part, 0) % 2**32 if number else part for part, number in zip(parts, numbers)]
+
+
+def are_same(mine, theirs):
+    """Whether the operands are the same. objdump names some control registers that `disasm` prints by number, and
+    prints a number for some that `disasm` names."""
+    if mine[0] != theirs[0]:
+        return False
+    if mine[0].startswith('csr'):
+        mine, theirs = (parts_of(row[1])[::2] for row in (mine, theirs))
+        return mine == theirs
+    return parts_of(mine[1]) == parts_of(theirs[1].replace('unknown', '0'))
+
+
+def compare_operands(tool, values, width, folder):
+    """Values that objdump and the program both take for instructions, in images that they fill."""
+    values = values[:0x10000 // width]
+    path = os.path.join(folder, 'all')
+    with open(path, 'wb') as file:
+        for value in values:
+            file.write(struct.pack('<I' if width == 4 else '<H', value))
+    words = [tool, '-D', '-z', '-b', 'binary', '-m', 'riscv:rv32', '-M', 'no-aliases', path]
+    rows = {}
+    for line in subprocess.run(words, capture_output=True, text=True, check=True).stdout.split('\n'):
+        row = re.match(r'\s*([0-9a-f]+):\s+[0-9a-f]+\s+(\S+)\s*(.*)', line)
+        if row:
+            rows[int(row.group(1), 16)] = (row.group(2), row.group(3))
+    wrong, count = 0, 0
+    for i, (value, mine) in enumerate(zip(values, listed(values, width, folder))):
+        theirs = rows.get(width * i, ('', ''))
+        if mine[0].startswith('.'):
+            continue  # whether it is an instruction is compared above
+        count += 1
+        if theirs[0] in ('c.slli64', 'c.srli64', 'c.srai64'):
+            theirs = (theirs[0][:-2], theirs[1] + ',0')
+        if not are_same(mine, theirs):
+            print('objdump: %0*X is %s %s, and disasm says %s %s' % (2 * width, value, *theirs, *mine), file=sys.stderr)
+            wrong += 1
+    return wrong, count
+
+
 def main():
     tool = next((name for name in NAMES if shutil.which(name)), None)
     if tool is None:
@@ -106,13 +163,19 @@ def main():
     halves = [half for half in range(0x10000) if half % 4 != 3]
     if sys.argv[1:] != ['all']:
         halves = random.sample(halves, 2000)
+    listed_count = 0
     with tempfile.TemporaryDirectory() as folder:
         open(os.path.join(folder, 'empty'), 'w').close()
         subprocess.run([os.path.join(TOP, 'clic_tool')], stdout=subprocess.DEVNULL)
         wrong = compare(tool, words_to_try(2000), 4, folder) + compare(tool, halves, 2, folder)
+        words = words_to_try(12000) + [random.getrandbits(32) & ~0x7F | 0x73 for _ in range(4000)]
+        for values, width in ((words, 4), (halves[:0x6000], 2), (halves[0x6000:], 2)):
+            differ, count = compare_operands(tool, values, width, folder)
+            wrong += differ
+            listed_count += count
     if wrong:
         sys.exit(1)
-    print('objdump: agrees on 2000 words and %d half-words' % len(halves))
+    print('objdump: agrees on 2000 words and %d half-words, and on the operands of %d instructions' % (len(halves), listed_count))
 
 
 main()

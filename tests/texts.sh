@@ -36,11 +36,14 @@ writes 0 examples/echo.report run examples/echo.img examples/echo.txt 1000
 writes 0 examples/blink.img asm examples/blink.s
 writes 0 examples/blink.report run examples/blink.img examples/blink.txt 1000 --trace
 
+# A program by its words.
+writes 0 tests/rows/interrupt.img asm tests/rows/interrupt.s
+
 # The source of an image is assembled to the image.
 source=$(mktemp)
-for name in first echo blink; do
-    ./clic_tool disasm examples/$name.img >"$source" || exit 1
-    writes 0 examples/$name.img asm "$source"
+for image in examples/*.img tests/rows/*.img; do
+    ./clic_tool disasm "$image" >"$source" || exit 1
+    writes 0 "$image" asm "$source"
 done
 rm -f "$source"
 
