@@ -12,5 +12,3 @@ mod tests;
 mod values;
 
 pub use disassembly::{disassemble, disassemble_image};
-pub use statement::Statement;
-pub use values::Values;

@@ -156,7 +156,7 @@ fn fence(w: u32) -> Option<Ins>
 
 // The instruction of the row that the word is of.
 #[tactic(auto, using(crate::proofs::Tops::tops))]
-#[inline]
+#[inline(always)]
 fn row_of(w: u32) -> Option<Ins>
     ensures { result ≡ spelled w }
 {
@@ -192,6 +192,7 @@ fn row_of(w: u32) -> Option<Ins>
 }
 
 /// The instruction that the word spells.
+#[inline(always)]
 pub fn decode32(w: u32) -> Option<Ins>
     ensures table { result ≡ spelled w }
     ensures found { (i : Ins) → result ≡ Some i → Spells w i }

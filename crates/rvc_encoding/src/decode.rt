@@ -236,6 +236,7 @@ fn break_call_or_add(h: u32) -> Option<Cins>
 // And these the rows of one quadrant.
 
 #[tactic(auto, using(crate::proofs::Groups::groups, crate::proofs::Masks::masks), unfolding(crate::specs::Parts::part))]
+#[inline(always)]
 fn quadrant_0(h: u32) -> Option<Cins>
     requires { bits h 0 2 ≡ 0 }
     ensures { result ≡ spelled16 h }
@@ -259,6 +260,7 @@ fn quadrant_0(h: u32) -> Option<Cins>
 }
 
 #[tactic(auto, using(crate::proofs::Groups::groups, crate::proofs::Masks::masks), unfolding(crate::specs::Parts::part))]
+#[inline(always)]
 fn quadrant_1(h: u32) -> Option<Cins>
     requires { bits h 0 2 ≡ 1 }
     ensures { result ≡ spelled16 h }
@@ -301,6 +303,7 @@ fn quadrant_1(h: u32) -> Option<Cins>
 }
 
 #[tactic(auto, using(crate::proofs::Groups::groups, crate::proofs::Masks::masks), unfolding(crate::specs::Parts::part))]
+#[inline(always)]
 fn quadrant_2(h: u32) -> Option<Cins>
     requires { bits h 0 2 ≡ 2 }
     ensures { result ≡ spelled16 h }
@@ -321,6 +324,7 @@ fn quadrant_2(h: u32) -> Option<Cins>
 }
 
 #[tactic(auto, using(crate::proofs::Groups::groups, crate::proofs::Masks::masks), unfolding(crate::specs::Parts::part))]
+#[inline(always)]
 fn row_of(half: u16) -> Option<Cins>
     ensures { result ≡ spelled16 half }
 {
@@ -334,6 +338,7 @@ fn row_of(half: u16) -> Option<Cins>
 }
 
 /// The instruction that the half-word spells.
+#[inline(always)]
 pub fn decode16(h: u16) -> Option<Cins>
     ensures table { result ≡ spelled16 h }
     ensures found { (c : Cins) → result ≡ Some c → Spells16 h c }
