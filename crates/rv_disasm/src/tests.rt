@@ -5,6 +5,7 @@ use std::process::Abort;
 
 // The bytes from 0 on are listed as these lines, which are assembled to the bytes.
 fn lists(rt: &impl Abort, alloc: Global, bytes: &[u8], want: &str) {
+    assert!(rt; bytes.len() <= 4, "{want}");
     let text = disassemble(alloc, bytes, 0).expect(rt, want);
     assert_eq!(rt; text.bytes(), want.as_bytes());
     let source = format!(in alloc; ".entry 0\n.org 0\n{want}").expect(rt, "memory");
