@@ -1,6 +1,6 @@
 -- No source of an image is too long for the assembler.
-use Rattle.std.proofs.Common.{◌≡◌, ℕ, zero, suc, ◌+◌, ◌-◌, ◌*◌, ◌/◌, ◌%◌, ◌^◌, ◌<◌, ◌≤◌, List, [], ◌∷◌, ◌++◌, length, Option, Some, None, Bool, true, false, cond, refl, sym, ap, subst, ◌∙◌, arith, length-append, append_assoc, lit<, get_or, Fits, w8}
-use Rattle.std.specs.Prelude.{nat_lt, nat_le, ◌==◌, ℤ, pos, negsuc}
+use Rattle.std.proofs.Common.{◌≡◌, ℕ, zero, suc, ◌+◌, ◌-◌, ◌*◌, ◌/◌, ◌%◌, ◌^◌, ◌<◌, ◌≤◌, List, [], ◌∷◌, ◌++◌, length, Option, Some, None, Bool, true, false, cond, refl, sym, ap, subst, ◌∙◌, arith, length-append, append_assoc, lit<, get_or, take, Fits, w8}
+use Rattle.std.specs.Prelude.{option_map, slice_get, IfSome, nat_lt, nat_le, ◌==◌, ℤ, pos, negsuc}
 use Rattle.std.specs.List.{flat_map, list_all}
 use Rattle.std.specs.Fmt.{decimal, signed_decimal}
 use Rattle.std.proofs.lemmas.Fmt.{length-decimal-le}
@@ -245,10 +245,34 @@ listing_returns base bytes r some h =
     ap assembled (sym (one_is base bytes)) ∙ image_returns (record { start = base; segments = record { address = base; content = bytes } ∷ [] }) (omega arith) (one_sound base bytes some h) (r, tt)
 
 -- bytes are below 256
-bytes_from : (bytes : List ℕ) → ((i : ℕ) → Fits w8 (get_or bytes i 0)) → AreBytes bytes
+pub bytes_from : (bytes : List ℕ) → ((i : ℕ) → Fits w8 (get_or bytes i 0)) → AreBytes bytes
 bytes_from [] h = tt
 bytes_from (b ∷ bs) h = (Fits-lt-pow (h 0), bytes_from bs (λ i. h (suc i)))
 
 pub text_returns : (base : ℕ) (bytes text : List ℕ) → ((i : ℕ) → Fits w8 (get_or bytes i 0)) → text ≡ listing base bytes → 0 < length bytes → holds base (length bytes) ≡ true
     → assembled (heading base ++ text) ≡ Ok (record { image = record { start = base; segments = record { address = base; content = bytes } ∷ [] }; symbols = [] })
 text_returns base bytes text r e some h = ap (λ t. assembled (heading base ++ t)) e ∙ listing_returns base bytes (bytes_from bytes r) some h
+
+-- ---- an image whose segments were read one by one
+
+pub bytes_there : (o : Option SegmentView) (bytes : List ℕ) → option_map (λ s. s.content) o ≡ Some bytes → AreBytes bytes → IfSome o (λ s. AreBytes s.content)
+bytes_there None bytes e r = cc
+bytes_there (Some s) bytes e r = let same : s.content ≡ bytes = cc in subst AreBytes (sym same) r
+
+all_on : (segments : List SegmentView) (i : ℕ) → AreAllBytes (take i segments) → IfSome (slice_get segments i) (λ s. AreBytes s.content) → AreAllBytes (take (suc i) segments)
+all_on [] i a s = tt
+all_on (x ∷ xs) zero a s = (s, tt)
+all_on (x ∷ xs) (suc i) a s = (a.0, all_on xs i a.1 s)
+
+pub one_more : (segments : List SegmentView) (i : ℕ) → AreAllBytes (take i segments) → IfSome (slice_get segments i) (λ s. AreBytes s.content) → AreAllBytes (take (i + 1) segments)
+one_more segments i a s = let one : suc i ≡ i + 1 = omega arith in subst (λ (n : ℕ). AreAllBytes (take n segments)) one (all_on segments i a s)
+
+all_taken : (segments : List SegmentView) (i : ℕ) → length segments ≤ i → take i segments ≡ segments
+all_taken [] zero h = refl
+all_taken [] (suc i) h = refl
+all_taken (x ∷ xs) zero h = absurd (omega arith)
+all_taken (x ∷ xs) (suc i) h = ap (λ ss. x ∷ ss) (all_taken xs i (omega arith))
+
+pub source_returns : (image : ImageView) (i : ℕ) (text : List ℕ) → text ≡ image_text image → image.start < 2 ^ 32 → AreSound image.segments → AreAllBytes (take i image.segments) → length image.segments ≤ i
+    → assembled text ≡ Ok (record { image = image; symbols = [] })
+source_returns image i text e l h b past = ap assembled e ∙ image_returns image l h (subst AreAllBytes (all_taken image.segments i past) b)

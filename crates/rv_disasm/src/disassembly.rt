@@ -1,10 +1,10 @@
 // The disassembler.
-ghost use Rattle.std.specs.Prelude.{◌≡◌, ◌++◌, ◌∷◌, [], ◌+◌, ◌<◌, ◌≤◌, ◌^◌, length, drop, true, Ok, OnOk, IfOk};
+ghost use Rattle.std.specs.Prelude.{◌≡◌, ◌++◌, ◌∷◌, [], ◌+◌, ◌<◌, ◌≤◌, ◌^◌, length, drop, slice_get, true, Ok, OnOk, IfOk, IfSome};
 ghost use Rattle.std.specs.List.{flat_map};
 ghost use Rattle.hart_memory.specs.Place.{holds};
 ghost use Rattle.hart_memory.specs.Image.{AreSound};
 ghost use Rattle.rv_assembler.specs.Source.{assembled};
-ghost use Rattle.rv_disasm.specs.Listing.{heading, listing, segment_text, image_text};
+ghost use Rattle.rv_disasm.specs.Listing.{heading, listing, segment_text, image_text, AreBytes};
 
 use crate::listing::{push_line, push_listing};
 use crate::statement::Statement;
@@ -28,7 +28,8 @@ pub fn disassemble(alloc: Global, bytes: &[u8], base: u32) -> Result<Text, WantO
 fn push_segment(text: &mut Text, image: &Image, i: usize) -> Result<(), WantOfMemory>
     requires inside { i < length image.now.segments }
     requires sound { AreSound image.now.segments }
-    ensures { OnOk result (text.new ++ flat_map segment_text (drop (i + 1) image.now.segments) ≡ text.old ++ flat_map segment_text (drop i image.now.segments)) }
+    ensures text { OnOk result (text.new ++ flat_map segment_text (drop (i + 1) image.now.segments) ≡ text.old ++ flat_map segment_text (drop i image.now.segments)) }
+    ensures bytes { OnOk result (IfSome (slice_get image.now.segments i) (λ s. AreBytes s.content)) }
 {
     let base = image.at(i);
     push_line(text, &Statement::Org(base), 0)?;
@@ -37,7 +38,8 @@ fn push_segment(text: &mut Text, image: &Image, i: usize) -> Result<(), WantOfMe
 
 /// The source of an image: its entry, and for each segment its place and its listing. It is assembled to the image.
 pub fn disassemble_image(alloc: Global, image: &Image) -> Result<Text, WantOfMemory>
-    ensures { IfOk result (λ text. text ≡ image_text image.now) }
+    ensures source { IfOk result (λ text. text ≡ image_text image.now) }
+    ensures again { IfOk result (λ text. assembled text ≡ Ok (record { image = image.now; symbols = [] })) }
 {
     let mut text = Text::new(alloc);
     push_line(&mut text, &Statement::Entry(image.entry()), 0)?;

@@ -3,7 +3,7 @@ ghost use Rattle.std.specs.Prelude.{◌≡◌, ◌++◌, ◌+◌, ◌*◌, ◌<�
 ghost use Rattle.rvc_encoding.specs.Rows.{spelled16};
 ghost use Rattle.rv_disasm.specs.Fitting.{statement_fits};
 ghost use Rattle.rv_disasm.specs.Printing.{line_pieces};
-ghost use Rattle.rv_disasm.specs.Listing.{short_or, word_statement, first_statement, size_of, line_text, listing};
+ghost use Rattle.rv_disasm.specs.Listing.{short_or, word_statement, first_statement, size_of, line_text, listing, AreBytes};
 
 use crate::printing::put_statement;
 use crate::statement::Statement;
@@ -109,7 +109,8 @@ pub(crate) fn push_line(
 /// Adds the listing of the bytes, which stand from `base` on.
 pub(crate) fn push_listing(text: &mut Text, bytes: &[u8], base: u32) -> Result<(), WantOfMemory>
     requires { base + length bytes.now ≤ 2 ^ 32 }
-    ensures { OnOk result (text.new ≡ text.old ++ listing base bytes.now) }
+    ensures text { OnOk result (text.new ≡ text.old ++ listing base bytes.now) }
+    ensures bytes { OnOk result (AreBytes bytes.now) }
 {
     let mut at = 0;
     while at < bytes.len() {

@@ -3,6 +3,8 @@ use Rattle.std.proofs.lemmas.Bool.{lt-ltb}
 use Rattle.std.proofs.lemmas.Result.{on_ok_weaker}
 use Rattle.rv_disasm.specs.Fitting.{statement_fits}
 use Rattle.rv_disasm.proofs.Whole.{segment_at, segment_on, segment_small}
+use Rattle.std.specs.Prelude.{slice_get}
+use Rattle.rv_disasm.proofs.Lengths.{bytes_there}
 use Rattle.rv_disasm.proofs.disassembly.push_segment.Goals as goal
 
 pub push_line-requires : goal.push_line-requires
@@ -16,5 +18,9 @@ push_listing-requires c =
 
 pub returns : goal.returns
 returns c =
-    let s = segment_at c.args.image.now.segments c.args.i _ _ c.at-base.ensures c.bytes.ensures in
-    on_ok_weaker c.push_listing.result (λ f. segment_on c.args.image.now.segments c.args.i _ _ c.args.text.now c.push_line.new.text c.push_listing.new.text s c.in_ok-push_line.ensures f) c.push_listing.ensures
+    let segments = c.args.image.now.segments in
+    let s = segment_at segments c.args.i _ _ c.at-base.ensures c.bytes.ensures in
+    record {
+      text = on_ok_weaker c.push_listing.result (λ f. segment_on segments c.args.i _ _ c.args.text.now c.push_line.new.text c.push_listing.new.text s c.in_ok-push_line.ensures f) c.push_listing.ensures.text;
+      bytes = on_ok_weaker c.push_listing.result (λ r. bytes_there (slice_get segments c.args.i) c.bytes.result.now c.bytes.ensures r) c.push_listing.ensures.bytes;
+    }

@@ -3,6 +3,7 @@ use Rattle.std.proofs.lemmas.List.{append-nil}
 use Rattle.rv_disasm.specs.Printing.{line_pieces}
 use Rattle.rv_disasm.specs.Listing.{size_of, listed, text_from, line_text, listing}
 use Rattle.rv_disasm.proofs.Firsts.{next_line, at_end, first_steps}
+use Rattle.rv_disasm.proofs.Lengths.{bytes_from}
 use Rattle.rv_disasm.proofs.listing.push_listing.Goals as goal
 
 pub loop-at-smaller : goal.loop-at-smaller
@@ -39,4 +40,7 @@ unfolding listing
 returns c =
     let bytes = c.args.bytes.now in
     let last = at_end bytes c.loop-at.at (c.args.base + c.loop-at.at) c.loop-at-test.false in
-    sym (append-nil c.loop-at.text) ∙ ap (λ x. c.loop-at.text ++ x) (sym last) ∙ c.loop-at.invariant.same
+    record {
+      text = sym (append-nil c.loop-at.text) ∙ ap (λ x. c.loop-at.text ++ x) (sym last) ∙ c.loop-at.invariant.same;
+      bytes = bytes_from bytes c.type_inv.bytes;
+    }
