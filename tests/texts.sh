@@ -22,7 +22,7 @@ writes() {
 }
 
 # The status, the program, and the words after the names of its image and its scenario.
-row() {
+runs() {
     status=$1
     name=tests/rows/$2
     shift 2
@@ -47,13 +47,13 @@ for image in examples/*.img tests/rows/*.img; do
 done
 rm -f "$source"
 
-row 0 division 100
-row 0 compressed 100 --trace
-row 0 output 100
-row 0 exception 100 --trace
-row 1 nothing 1 --trace
-row 1 interrupt 24 --trace
-row 9 vector 100
-row 0 ram 100
+runs 0 division 100
+runs 0 compressed 100 --trace
+runs 0 output 100
+runs 0 exception 100 --trace
+runs 1 nothing 1 --trace
+runs 1 interrupt 24 --trace
+runs 9 vector 100
+runs 0 ram 100
 echo "texts: each program writes what it is to write"
 if command -v python3 >/dev/null; then python3 tests/gnu_as.py || exit 1; fi
