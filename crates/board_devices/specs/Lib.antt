@@ -1,4 +1,3 @@
-pub mod Bit
 pub mod Uart
 pub mod Gpio
 pub mod Ticker

@@ -3,7 +3,7 @@ use Rattle.std.specs.Prelude.{◌≡◌, ℕ, ◌+◌, ◌-◌, ◌%◌, ◌^◌
 use Rattle.device_model.specs.declared.stimulus.Stimulus.{Stimulus}
 use Rattle.device_model.specs.declared.stimulus.Stimulus.TheVariants.{Receive, Pins, Tick}
 use Rattle.device_model.specs.WordRegisters.{WordRegisters}
-use Rattle.board_devices.specs.Bit.{bit}
+use Rattle.hart_words.specs.Bits.{bit}
 
 -- the state: enable, overruns, dropped, the number of waiting bytes, the waiting bytes, the output
 abbrev pub uart_list : ℕ → ℕ → ℕ → List ℕ → List ℕ → List ℕ

@@ -1,5 +1,6 @@
 use super::*;
-use device_model::{Device, Stimulus};
+use device_model::laws::{both_are_side_by_side, window_is_moved_up};
+use device_model::{Device, Stimulus, Window};
 use std::test::Fail;
 
 // Loads a word register through the bound.
@@ -90,4 +91,16 @@ fn uart_counts_what_it_has_no_room_for(rt: HostRuntime) -> Result<(), Fail> {
     assert_eq!(rt; word(&mut uart, 0x4), Some(2));
     assert_eq!(rt; uart.output_len(), 65_536);
     Ok(())
+}
+
+// The laws of a moved device and of two devices side by side, of the shipped ones.
+#[test]
+fn shipped_devices_are_moved_up_side_by_side(_: HostRuntime) {
+    window_is_moved_up::<Uart>();
+    window_is_moved_up::<Gpio>();
+    window_is_moved_up::<Ticker>();
+    window_is_moved_up::<Halter>();
+    both_are_side_by_side::<Window<Ticker>, Window<Halter>>();
+    both_are_side_by_side::<Window<Gpio>, TwoDevices>();
+    both_are_side_by_side::<Window<Uart>, ThreeDevices>();
 }

@@ -1,9 +1,10 @@
 // A timer.
 ghost use Rattle.std.specs.Prelude.{◌≡◌, ◌^◌, ◌<◌, ◌∷◌, [], refl};
 ghost use Rattle.device_model.specs.WordRegisters.{word_device};
-ghost use Rattle.board_devices.specs.Bit.{bit};
+ghost use Rattle.hart_words.specs.Bits.{bit};
 ghost use Rattle.board_devices.specs.Ticker.{ticker, ticker_list};
-ghost use Rattle.board_devices.specs.Sound.Ticker.{bit_below, ticker_is_sound};
+ghost use Rattle.hart_words.proofs.Bits.{bit_below};
+ghost use Rattle.board_devices.specs.Sound.Ticker.{ticker_is_sound};
 
 use device_model::{Device, Stimulus};
 use hart_words::WantOfMemory;

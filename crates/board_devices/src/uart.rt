@@ -1,7 +1,7 @@
 // A serial port.
 ghost use Rattle.std.specs.Prelude.{◌≡◌, ◌^◌, ◌<◌, ◌≤◌, ◌∷◌, [], All, length, IfOk, refl};
 ghost use Rattle.device_model.specs.WordRegisters.{word_device};
-ghost use Rattle.board_devices.specs.Bit.{bit};
+ghost use Rattle.hart_words.specs.Bits.{bit};
 ghost use Rattle.board_devices.specs.Uart.{uart, uart_list};
 ghost use Rattle.board_devices.specs.Sound.Uart.{uart_is_sound, uart_is_state};
 

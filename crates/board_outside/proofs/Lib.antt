@@ -2,3 +2,4 @@ pub mod Writing
 mod CallsToCome
 mod Pieces
 mod CountsSoFar
+mod Joined

@@ -1,6 +1,6 @@
 -- Calls that are numbered from 1, some of which are made to fail.
-use Rattle.std.specs.Prelude.{ℕ, List, [], ◌∷◌, ◌++◌, Bool, nat_lt}
-use Rattle.std.specs.List.{list_all}
+use Rattle.std.specs.Prelude.{ℕ, List, [], ◌∷◌, ◌++◌, Bool, nat_eq, nat_lt}
+use Rattle.std.specs.List.{list_any, list_all}
 use Rattle.board_outside.specs.Counts.{counted}
 
 -- the numbers of the calls that are to fail, and how many were made
@@ -19,6 +19,10 @@ with_failing calls call = record calls { failing = calls.failing ++ call ∷ [] 
 -- after one more
 abbrev pub counted_call : CallsState → CallsState
 counted_call calls = record calls { made = counted calls.made }
+
+-- the next call is to fail
+abbrev pub is_failing : CallsState → Bool
+is_failing calls = list_any (λ call. nat_eq call (counted calls.made)) calls.failing
 
 -- no call that is still to come is to fail
 abbrev pub none_to_come : CallsState → Bool

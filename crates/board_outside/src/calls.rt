@@ -1,7 +1,7 @@
 // Calls that are numbered, some of which are made to fail.
 ghost use Rattle.std.specs.Prelude.{◌≡◌, OnOk, OnErr, IsTrue, false, nat_eq};
 ghost use Rattle.std.specs.List.{list_any};
-ghost use Rattle.board_outside.specs.Calls.{no_calls, with_failing, counted_call, none_to_come};
+ghost use Rattle.board_outside.specs.Calls.{no_calls, with_failing, counted_call, is_failing, none_to_come};
 
 use hart_words::WantOfMemory;
 use std::alloc::Global;
@@ -43,7 +43,7 @@ impl Calls {
 
     /// Counts a call, and says whether it is to fail.
     pub fn is_to_fail(&mut self) -> bool
-        ensures fails { result ≡ list_any (λ call. nat_eq call (self.new).made) self.old.failing }
+        ensures fails { result ≡ is_failing self.old }
         ensures counted { self.new ≡ counted_call self.old }
         ensures none_to_come { IsTrue (none_to_come self.old) → (result ≡ false) × IsTrue (none_to_come self.new) }
     {

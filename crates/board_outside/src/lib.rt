@@ -5,6 +5,7 @@ mod calls;
 mod file_shelf;
 mod memory_shelf;
 mod memory_sink;
+mod output;
 mod puts;
 mod quiet;
 mod reads;
@@ -15,6 +16,7 @@ mod stored_file;
 mod streams;
 #[cfg(test)]
 mod tests;
+mod tries;
 mod word;
 mod words;
 

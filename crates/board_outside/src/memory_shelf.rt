@@ -1,11 +1,12 @@
 // A shelf in memory, whose calls can be made to fail.
-ghost use Rattle.std.specs.Prelude.{◌≡◌, OnOk, OnErr, position, find, option_copied};
+ghost use Rattle.std.specs.Prelude.{◌≡◌, ◌+◌, ◌≤◌, vec_len, OnOk, OnErr, IfOk, IfSome, IsTrue, position, find, option_copied};
 ghost use Rattle.std.specs.Str.{bytes_eq};
 ghost use Rattle.board_outside.specs.Calls.{with_failing};
-ghost use Rattle.board_outside.specs.MemoryShelf.{empty_shelf, with_file, shelf_view};
+ghost use Rattle.board_outside.specs.Shelf.{file_at, Gives, CountsFetch, StaysSteady};
+ghost use Rattle.board_outside.specs.MemoryShelf.{empty_shelf, with_file, shelf_view, found_file, after_fetch, AnswersFetch};
 
 use crate::calls::Calls;
-use crate::shelf::{Shelf, ShelfFault};
+use crate::shelf::{MOST_FETCHED, Shelf, ShelfFault};
 use crate::stored_file::StoredFile;
 use hart_words::WantOfMemory;
 use std::alloc::Global;
@@ -80,7 +81,16 @@ impl MemoryShelf {
 impl Shelf for MemoryShelf {
     ghost told = { λ s. shelf_view s };
 
-    fn fetch(&mut self, alloc: Global, name: &str, limit: u64) -> Result<Vec<u8>, ShelfFault> {
+    fn fetch(&mut self, alloc: Global, name: &str, limit: u64) -> Result<Vec<u8>, ShelfFault>
+        requires { limit ≤ MOST_FETCHED }
+        ensures size { IfOk result (λ v. vec_len v ≤ limit + 1) }
+        ensures bytes { IfSome (shelf_view self.old).files (λ files. Gives (λ v. v.items) (file_at files name.now) limit result) }
+        ensures counts { CountsFetch result (shelf_view self.old) (shelf_view self.new) }
+        ensures kept { (shelf_view self.new).files ≡ (shelf_view self.old).files }
+        ensures steady { IsTrue (shelf_view self.old).steady → StaysSteady (shelf_view self.old) (shelf_view self.new) }
+        ensures after { self.new ≡ after_fetch self.old name.now }
+        ensures answer { AnswersFetch (λ v. v.items) limit result (found_file self.old name.now) }
+    {
         if self.calls.is_to_fail() {
             self.faults = self.faults.saturating_add(1);
             return Err(ShelfFault::Failed);

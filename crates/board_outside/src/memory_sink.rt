@@ -1,7 +1,8 @@
 // A sink in memory, of a fixed room.
-ghost use Rattle.std.specs.Prelude.{◌≡◌, OnOk, OnErr, IfOk};
+ghost use Rattle.std.specs.Prelude.{◌≡◌, OnOk, OnErr, IfOk, is_ok};
 ghost use Rattle.board_outside.specs.Calls.{with_failing};
-ghost use Rattle.board_outside.specs.MemorySink.{empty_sink, sink_view};
+ghost use Rattle.board_outside.specs.Sink.{Writes};
+ghost use Rattle.board_outside.specs.MemorySink.{empty_sink, sink_view, takes_all, after_put};
 
 use crate::calls::Calls;
 use crate::sink::{Sink, SinkFault};
@@ -61,7 +62,11 @@ impl MemorySink {
 impl Sink for MemorySink {
     ghost told = { λ s. sink_view s };
 
-    fn put(&mut self, bytes: &[u8]) -> Result<(), SinkFault> {
+    fn put(&mut self, bytes: &[u8]) -> Result<(), SinkFault>
+        ensures writes { Writes (is_ok result) (sink_view self.old) (sink_view self.new) bytes.now }
+        ensures after { self.new ≡ after_put self.old bytes.now }
+        ensures answer { is_ok result ≡ takes_all self.old bytes.now }
+    {
         if self.calls.is_to_fail() {
             self.faults = self.faults.saturating_add(1);
             return Err(SinkFault::Failed);

@@ -4,6 +4,7 @@ ghost use Rattle.std.specs.Io.KnownBytes.{WriteAppends};
 ghost use Rattle.board_outside.specs.Puts.{no_puts, CountsWrite};
 
 use crate::sink::SinkFault;
+use crate::tries::write_through;
 use std::io::Write;
 use std::marker::Model;
 
@@ -45,7 +46,7 @@ impl Puts {
         ensures bytes { WriteAppends (W.contents writer.old) (W.contents writer.new) result piece.now }
         ensures counts { CountsWrite result self.old self.new }
     {
-        match writer.write(piece) {
+        match write_through(writer, piece) {
             Ok(n) if n > 0 => {
                 self.bytes = self.bytes.saturating_add(n as u64);
                 Ok(n)

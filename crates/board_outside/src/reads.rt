@@ -6,6 +6,7 @@ ghost use Rattle.board_outside.specs.Shelf.{CountsRefusal};
 ghost use Rattle.board_outside.specs.Reads.{no_reads, system_view, ReadsNothing, CountsRead};
 
 use crate::shelf::ShelfFault;
+use crate::tries::read_through;
 use std::io::{Error, ErrorKind, Read};
 use std::marker::Model;
 
@@ -59,7 +60,7 @@ impl Reads {
         ensures failed { IfErr result (λ fault. fault ≡ ShelfFault.Failed) }
         ensures counts { CountsRead result self.old self.new }
     {
-        match file.read(piece) {
+        match read_through(file, piece) {
             Ok(n) => {
                 if n == 0 {
                     self.ends = self.ends.saturating_add(1);

@@ -1,11 +1,13 @@
 use super::*;
+use crate::output::Output;
 use crate::puts::Puts;
 use crate::reads::Reads;
 use crate::streams::{read_front, write_whole};
+use crate::tries::MOST_TRIES;
 use hart_words::WantOfMemory;
 use std::alloc::Global;
 use std::fs;
-use std::io::{Read, Write};
+use std::io::{Error, ErrorKind, Read, Write};
 use std::test::Fail;
 
 // A writer that takes one byte at a time, and then nothing.
@@ -25,6 +27,46 @@ impl Write for Narrow {
 
     fn flush(&mut self) -> std::io::Result<()> {
         Ok(())
+    }
+}
+
+// A stream that is interrupted so often, then gives or takes once, and so on.
+#[derive(Drop)]
+struct Halting {
+    interruptions: u32,
+    left: u32,
+}
+
+impl Halting {
+    fn is_interrupted(&mut self) -> bool {
+        if self.left == 0 {
+            self.left = self.interruptions;
+            return false;
+        }
+        self.left -= 1;
+        true
+    }
+}
+
+impl Write for Halting {
+    fn write(&mut self, buf: &[u8]) -> std::io::Result<usize> {
+        if self.is_interrupted() {
+            return Err(Error::from(ErrorKind::Interrupted));
+        }
+        Ok(buf.len())
+    }
+
+    fn flush(&mut self) -> std::io::Result<()> {
+        Ok(())
+    }
+}
+
+impl Read for Halting {
+    fn read(&mut self, buf: &mut [u8]) -> std::io::Result<usize> {
+        if self.is_interrupted() {
+            return Err(Error::from(ErrorKind::Interrupted));
+        }
+        Ok(buf.len())
     }
 }
 
@@ -67,6 +109,48 @@ fn streams_stop_where_nothing_is_taken_or_given(rt: HostRuntime) {
     assert_eq!(rt; (reads.bytes(), reads.ends()), (4103, 1));
 }
 
+// The last try counts.
+#[test]
+fn what_is_interrupted_is_tried_again(rt: HostRuntime) {
+    for (interruptions, bytes) in [(0, 5), (MOST_TRIES - 1, 5), (MOST_TRIES, 0)] {
+        let mut stream = Halting {
+            interruptions,
+            left: interruptions,
+        };
+        let mut puts = Puts::new();
+        let written = write_whole(&mut puts, &mut stream, b"hello");
+        assert_eq!(rt; (written.is_ok(), puts.bytes()), (bytes == 5, bytes));
+        stream.left = interruptions;
+        let mut reads = Reads::new();
+        let read = read_front(&mut reads, rt.alloc(), &mut stream, 5);
+        assert_eq!(rt; (read.is_ok(), reads.bytes()), (bytes == 5, bytes));
+    }
+}
+
+// Texts are kept as long as they fit. After a failure nothing is kept.
+#[test]
+fn text_is_kept_back(rt: HostRuntime) {
+    let piece = [b'x'; 4096];
+    let mut output = Output::new();
+    let mut writer = Halting {
+        interruptions: 0,
+        left: 0,
+    };
+    for (size, taken) in [(4096, 0), (4095, 0), (1, 0), (1, 8193), (4096, 8193)] {
+        assert_eq!(rt; output.put(&mut writer, &piece[..size]), Ok(()));
+        assert_eq!(rt; output.bytes(), taken);
+    }
+    assert_eq!(rt;
+        output.finish(&mut Narrow { room: 4095 }),
+        Err(SinkFault::Failed)
+    );
+    assert_eq!(rt; output.bytes(), 12_288);
+    assert_eq!(rt; output.finish(&mut Narrow { room: 0 }), Ok(()));
+    assert_eq!(rt; output.put(&mut Narrow { room: 0 }, b"end"), Ok(()));
+    assert_eq!(rt; output.finish(&mut writer), Ok(()));
+    assert_eq!(rt; output.bytes(), 12_291);
+}
+
 fn fetched(
     shelf: &mut impl Shelf,
     alloc: Global,
@@ -102,6 +186,8 @@ fn files_of_the_system(rt: HostRuntime) -> Result<(), Fail> {
         );
     }
     assert_eq!(rt; (shelf.bytes_read(), shelf.ends_met()), (26, 1));
+    fs::remove_file(&rt, "nine")?;
+    fs::remove_dir(&rt, "folder")?;
     Ok(())
 }
 
@@ -140,10 +226,12 @@ fn bytes_in_memory(rt: HostRuntime) -> Result<(), WantOfMemory> {
 }
 
 #[test]
-fn nothing_is_kept_and_standard_output_takes_all(rt: HostRuntime) {
+fn the_quiet_sink_and_standard_output_take_all(rt: HostRuntime) {
     assert_eq!(rt; Quiet::new().put(b"gone"), Ok(()));
     let mut out = StdSink::new(&rt);
     assert_eq!(rt; out.put(b"written\n"), Ok(()));
+    assert_eq!(rt; out.bytes_taken(), 0);
+    assert_eq!(rt; out.finish(), Ok(()));
     assert_eq!(rt; out.bytes_taken(), 8);
 }
 

@@ -1,6 +1,10 @@
 pub mod Bits
+pub mod Width
+pub mod Length
 pub mod Sign
 pub mod TwosComplement
 pub mod Registers
 pub mod Hexadecimal
 pub mod Decimal
+pub mod Cuts
+pub mod Lines

@@ -11,6 +11,9 @@ use std::marker::Model;
 /// How many bytes a line holds.
 pub const LINE_LEN: usize = 128;
 
+/// The hexadecimal digits.
+const DIGITS: [u8; 16] = *b"0123456789ABCDEF";
+
 /// A line of at most 128 bytes, seen as a list. It takes no memory.
 #[derive(Drop)]
 pub struct Line {
@@ -77,30 +80,47 @@ impl Line {
         ensures bytes { self.new ≡ self.old ++ hex2 v }
         ensures len { length self.new ≡ length self.old + 2 }
     {
-        self.buffer.push(digit(v / 16));
-        self.buffer.push(digit(v % 16));
+        self.put_bytes(&[digit(v / 16), digit(v % 16)]);
     }
 
     /// Four digits of a half-word.
-    #[tactic(auto, unfolding(crate::specs::Hexadecimal::hex4))]
+    #[tactic(auto, unfolding(crate::specs::Hexadecimal::hex2, crate::specs::Hexadecimal::hex4))]
     pub fn put_hex4(&mut self, v: u16)
         requires { length self.old + 4 ≤ LINE_LEN }
         ensures bytes { self.new ≡ self.old ++ hex4 v }
         ensures len { length self.new ≡ length self.old + 4 }
     {
-        self.put_hex2((v / 0x100) as u8);
-        self.put_hex2((v % 0x100) as u8);
+        let high = (v / 0x100) as u8;
+        let low = (v % 0x100) as u8;
+        self.put_bytes(&[
+            digit(high / 16),
+            digit(high % 16),
+            digit(low / 16),
+            digit(low % 16),
+        ]);
     }
 
     /// Eight digits of a word.
-    #[tactic(auto, unfolding(crate::specs::Hexadecimal::hex8))]
+    #[tactic(auto, unfolding(crate::specs::Hexadecimal::hex2, crate::specs::Hexadecimal::hex4, crate::specs::Hexadecimal::hex8))]
     pub fn put_hex8(&mut self, v: u32)
         requires { length self.old + 8 ≤ LINE_LEN }
         ensures bytes { self.new ≡ self.old ++ hex8 v }
         ensures len { length self.new ≡ length self.old + 8 }
     {
-        self.put_hex4((v / 0x1_0000) as u16);
-        self.put_hex4((v % 0x1_0000) as u16);
+        let first = (v / 0x1_0000 / 0x100) as u8;
+        let second = (v / 0x1_0000 % 0x100) as u8;
+        let third = (v % 0x1_0000 / 0x100) as u8;
+        let fourth = (v % 0x1_0000 % 0x100) as u8;
+        self.put_bytes(&[
+            digit(first / 16),
+            digit(first % 16),
+            digit(second / 16),
+            digit(second % 16),
+            digit(third / 16),
+            digit(third % 16),
+            digit(fourth / 16),
+            digit(fourth % 16),
+        ]);
     }
 
     /// The number in decimal, without leading zeros: 1 to 20 digits.
@@ -115,9 +135,10 @@ impl Line {
 }
 
 // The hexadecimal digit of a number below 16.
+#[inline]
 fn digit(v: u8) -> u8
     requires { v ≤ 15 }
     ensures { result ≡ digit_glyph true v }
 {
-    if v < 10 { b'0' + v } else { b'A' + (v - 10) }
+    DIGITS[usize::from(v)]
 }

@@ -1,6 +1,6 @@
 // The 32 registers, of which register 0 is always 0.
-ghost use Rattle.std.specs.Prelude.{◌≡◌, ◌<◌};
-ghost use Rattle.hart_words.specs.Registers.{register, with_register, zero_registers};
+ghost use Rattle.std.specs.Prelude.{◌≡◌, ◌<◌, ◌^◌, ℕ, slice_index};
+ghost use Rattle.hart_words.specs.Registers.{register, with_register, zero_registers, AreRegisters};
 
 use std::marker::Model;
 
@@ -22,12 +22,24 @@ impl Model for Regs {
     ghost inverse = { λ words. record { words = words } };
 }
 
+// Each number of a slice is in the range of its type.
+fn are_words(words: &[u32])
+    ensures { (i : ℕ) → slice_index words.now i < 2 ^ 32 }
+{}
+
 impl Regs {
     /// All registers are 0.
     pub fn new() -> Regs
         ensures { result ≡ zero_registers }
     {
         Regs { words: [0; 32] }
+    }
+
+    /// There are 32, each holds a word, and register 0 holds 0.
+    pub fn in_range(&self)
+        ensures { AreRegisters self.now }
+    {
+        are_words(&self.words);
     }
 
     #[inline]

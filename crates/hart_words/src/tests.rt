@@ -71,3 +71,25 @@ fn texts(rt: HostRuntime) -> Result<(), Fail> {
     assert_eq!(rt; text.bytes(), b"end halt".as_slice());
     Ok(())
 }
+
+// A line feed at the end of a text is followed by one more line, which is empty.
+#[test]
+fn first_lines(rt: HostRuntime) {
+    let cases = [
+        (
+            b"ab\ncd\n".as_slice(),
+            b"ab".as_slice(),
+            Some(b"cd\n".as_slice()),
+        ),
+        (b"cd\n".as_slice(), b"cd".as_slice(), Some(b"".as_slice())),
+        (b"\r\n".as_slice(), b"\r".as_slice(), Some(b"".as_slice())),
+        (b"".as_slice(), b"".as_slice(), None),
+    ];
+    for (text, line, rest) in cases {
+        let first = cut_line(text);
+        assert_eq!(rt; first.0, line);
+        assert_eq!(rt; first.1, rest);
+    }
+    assert_eq!(rt; cut_at(b"7 line 3".as_slice(), b' ').0, b"7".as_slice());
+    assert_eq!(rt; even(7), 6);
+}

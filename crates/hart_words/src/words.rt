@@ -1,6 +1,6 @@
 // Fields, signs and the two's complement.
 ghost use Rattle.std.specs.Prelude.{◌≡◌, ◌+◌, ◌≤◌};
-ghost use Rattle.hart_words.specs.Bits.{bits};
+ghost use Rattle.hart_words.specs.Bits.{bits, even};
 ghost use Rattle.hart_words.specs.Sign.{sign_extended};
 ghost use Rattle.hart_words.specs.TwosComplement.{wrapped, signed_value};
 
@@ -17,6 +17,14 @@ pub fn field(word: u32, low: u32, count: u32) -> u32
     } else {
         shifted % (1 << count)
     }
+}
+
+/// The word with bit 0 cleared.
+#[inline]
+pub fn even(word: u32) -> u32
+    ensures { result ≡ even word }
+{
+    word - word % 2
 }
 
 /// A number of `bits` bits in two's complement, extended to a word: bit `bits - 1` is its sign.

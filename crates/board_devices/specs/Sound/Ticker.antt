@@ -8,12 +8,7 @@ use Rattle.device_model.specs.Meanings.{Keeps, IsSound}
 use Rattle.device_model.specs.WordRegisters.{word_device}
 use Rattle.device_model.specs.Sound.Window.{keeps_same}
 use Rattle.device_model.specs.Sound.WordRegisters.{row, word_device_is_sound}
-use Rattle.board_devices.specs.Bit.{bit}
 use Rattle.board_devices.specs.Ticker.{IsTicker, ticker, ticker_list, ticker_after, counted, count_of, period_of, flag_of}
-
-pub bit_below : (b : Bool) → bit b < 2
-bit_below true = omega arith
-bit_below false = omega arith
 
 ticker_keeps : (s : List ℕ) (count period enable flag : ℕ) → count < 2 ^ 32 → period < 2 ^ 32 → enable < 2 → flag < 2 → Keeps (word_device ticker) s (ticker_list count period enable flag)
 ticker_keeps s count period enable flag c p e f = record { is_state = record { listed = refl; count = c; period = p; enable = e; flag = f }; low = refl; high = refl; line_count = refl }

@@ -11,9 +11,9 @@ use Rattle.device_model.specs.Meanings.{Keeps, IsSound}
 use Rattle.device_model.specs.WordRegisters.{row_at, word_device}
 use Rattle.device_model.specs.Sound.Window.{keeps_same}
 use Rattle.device_model.specs.Sound.WordRegisters.{row, word_device_is_sound}
-use Rattle.board_devices.specs.Bit.{bit}
+use Rattle.hart_words.specs.Bits.{bit}
 use Rattle.board_devices.specs.Uart.{IsUart, uart, uart_list, uart_after, after_receive, after_send, enable_of, overruns_of, dropped_of, waiting_of, sent_of, first_or_zero, one_more, waits}
-use Rattle.board_devices.specs.Sound.Ticker.{bit_below}
+use Rattle.hart_words.proofs.Bits.{bit_below}
 
 -- two lists that stand in a state are read back
 pub waiting_listed : (enable overruns dropped : ℕ) (w o : List ℕ) → waiting_of (enable ∷ overruns ∷ dropped ∷ length w ∷ (w ++ o)) ≡ w
