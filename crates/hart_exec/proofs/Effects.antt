@@ -11,7 +11,7 @@ use Rattle.rv_encoding.specs.declared.operations.LoadOp.TheVariants.{Lb, Lh, Lw,
 use Rattle.rv_encoding.specs.declared.operations.StoreOp.{StoreOp}
 use Rattle.rv_encoding.specs.declared.operations.StoreOp.TheVariants.{Sb, Sh, Sw}
 use Rattle.hart_exec.specs.Access.{IsWidth, load_width, store_width}
-use Rattle.hart_exec.specs.Bounds.{IsInBounds, StaysEven, is_system}
+use Rattle.hart_exec.specs.Bounds.{IsInBounds, HasWidth, StaysEven, is_system}
 use Rattle.hart_exec.specs.Branches.{branch_taken}
 use Rattle.hart_exec.specs.Effect.{effect}
 use Rattle.hart_exec.specs.declared.effect.Effect.TheVariants.{System}
@@ -27,6 +27,25 @@ store_has_width : (op : StoreOp) → IsWidth (store_width op)
 store_has_width Sb = inl refl
 store_has_width Sh = inr (inl refl)
 store_has_width Sw = inr (inr refl)
+
+-- whatever the fields hold
+pub effect_has_width : (i : Ins) (length : ℕ) (regs : List ℕ) (pc : ℕ) → HasWidth (effect i length regs pc)
+unfolding effect
+effect_has_width (Lui rd imm) length regs pc = tt
+effect_has_width (Auipc rd imm) length regs pc = tt
+effect_has_width (Jal rd offset) length regs pc = tt
+effect_has_width (Jalr rd rs1 imm) length regs pc = tt
+effect_has_width (Branch op rs1 rs2 offset) length regs pc = tt
+effect_has_width (Load op rd rs1 imm) length regs pc = load_has_width op
+effect_has_width (Store op rs1 rs2 imm) length regs pc = store_has_width op
+effect_has_width (Imm op rd rs1 imm) length regs pc = tt
+effect_has_width (Reg op rd rs1 rs2) length regs pc = tt
+effect_has_width (Fence pred succ) length regs pc = tt
+effect_has_width Ecall length regs pc = tt
+effect_has_width Ebreak length regs pc = tt
+effect_has_width Mret length regs pc = tt
+effect_has_width Wfi length regs pc = tt
+effect_has_width (Csr op rd source csr) length regs pc = tt
 
 -- the first of several tests that all pass
 first_of_two : (a b : Bool) → (a && b) ≡ true → a ≡ true

@@ -1,14 +1,11 @@
 -- The widths of loads and stores, in bytes (Unprivileged ISA, "Load and Store Instructions").
-use Rattle.std.specs.Prelude.{◌≡◌, ◌⊎◌, ℕ, ◌*◌, Bool, true, false, if◌then◌else◌}
+pub use Rattle.hart_words.specs.Width.{IsWidth}
+use Rattle.std.specs.Prelude.{ℕ, ◌*◌, Bool, true, false, if◌then◌else◌}
 use Rattle.hart_words.specs.Sign.{sign_extended}
 use Rattle.rv_encoding.specs.declared.operations.LoadOp.{LoadOp}
 use Rattle.rv_encoding.specs.declared.operations.LoadOp.TheVariants.{Lb, Lh, Lw, Lbu, Lhu}
 use Rattle.rv_encoding.specs.declared.operations.StoreOp.{StoreOp}
 use Rattle.rv_encoding.specs.declared.operations.StoreOp.TheVariants.{Sb, Sh, Sw}
-
--- a byte, a half-word or a word
-abbrev pub IsWidth : ℕ → Type 0
-IsWidth width = (width ≡ 1) ⊎ (width ≡ 2) ⊎ (width ≡ 4)
 
 -- how many bytes the load reads
 abbrev pub load_width : LoadOp → ℕ

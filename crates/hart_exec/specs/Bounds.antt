@@ -1,8 +1,8 @@
 -- What holds of the effect of every instruction that some word spells, and of which instructions are left to the system.
-use Rattle.std.specs.Prelude.{◌≡◌, ◌<◌, ◌^◌, ◌*◌, ◌%◌, ⊤, Bool, true, false}
+pub use Rattle.rv_encoding.specs.System.{is_system}
+use Rattle.std.specs.Prelude.{◌≡◌, ℕ, ◌<◌, ◌^◌, ◌*◌, ◌%◌, ⊤, List}
+use Rattle.hart_words.specs.Registers.{register}
 use Rattle.hart_exec.specs.Access.{IsWidth}
-use Rattle.rv_encoding.specs.declared.instruction.Ins.{Ins}
-use Rattle.rv_encoding.specs.declared.instruction.Ins.TheVariants.{Ecall, Ebreak, Mret, Wfi, Csr}
 use Rattle.hart_exec.specs.declared.effect.Effect.{Effect}
 use Rattle.hart_exec.specs.declared.effect.Effect.TheVariants.{Go, Load, Store, System}
 
@@ -13,18 +13,27 @@ IsInBounds (Load rd at width signed) = (rd < 32) × (at < 2 ^ 32) × IsWidth wid
 IsInBounds (Store at width value) = (at < 2 ^ 32) × IsWidth width × (value < 2 ^ (8 * width))
 IsInBounds System = ⊤
 
+-- an access has one of the widths
+abbrev pub HasWidth : Effect → Type 0
+HasWidth (Go rd value next) = ⊤
+HasWidth (Load rd at width signed) = IsWidth width
+HasWidth (Store at width value) = IsWidth width
+HasWidth System = ⊤
+
+-- each register holds a word
+abbrev pub AreWords : List ℕ → Type 0
+AreWords registers = (r : ℕ) → register registers r < 2 ^ 32
+
+-- what goes into a register is a word
+abbrev pub HasWord : Effect → Type 0
+HasWord (Go rd value next) = value < 2 ^ 32
+HasWord (Load rd at width signed) = ⊤
+HasWord (Store at width value) = ⊤
+HasWord System = ⊤
+
 -- pc stays even
 abbrev pub StaysEven : Effect → Type 0
 StaysEven (Go rd value next) = next % 2 ≡ 0
 StaysEven (Load rd at width signed) = ⊤
 StaysEven (Store at width value) = ⊤
 StaysEven System = ⊤
-
--- ECALL, EBREAK, MRET, WFI and the CSR instructions, which act on the privileged state
-abbrev pub is_system : Ins → Bool
-is_system Ecall = true
-is_system Ebreak = true
-is_system Mret = true
-is_system Wfi = true
-is_system (Csr op rd source csr) = true
-is_system _ = false

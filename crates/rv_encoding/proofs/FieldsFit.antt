@@ -1,5 +1,5 @@
 -- Each field that a word is read by holds its value.
-use Rattle.std.proofs.Common.{◌≡◌, ℕ, ◌*◌, ◌<◌, arith, true, nat_lt, ap, ◌∙◌}
+use Rattle.std.proofs.Common.{◌≡◌, ℕ, ◌*◌, ◌<◌, arith, true, nat_lt, Some, ap, ◌∙◌}
 use Rattle.std.specs.List.{list_all}
 use Rattle.std.proofs.lemmas.Bool.{lt-ltb}
 use Rattle.std.proofs.lemmas.Bool.Decides.{nat_tests}
@@ -7,9 +7,9 @@ use Rattle.hart_words.specs.Bits.{bits}
 use Rattle.hart_words.specs.Sign.{sign_extended}
 use Rattle.rv_encoding.specs.Fields.{rd_of, rs1_of, rs2_of, csr_of, i_immediate, s_immediate, b_immediate, u_immediate, j_immediate, gathered, i_pieces, s_pieces, b_pieces, j_pieces}
 use Rattle.rv_encoding.specs.Fits.{is_register, is_signed, is_upper, is_offset, can_be_spelled}
-use Rattle.rv_encoding.specs.Rows.{rows, IsOf, Spells}
+use Rattle.rv_encoding.specs.Rows.{rows, IsOf, Spells, spelled}
 use Rattle.rv_encoding.specs.declared.instruction.Ins.{Ins}
-use Rattle.rv_encoding.proofs.Apart.{some_passes}
+use Rattle.rv_encoding.proofs.Apart.{some_passes, spelled_spells}
 
 signed_12 : (v : ℕ) → v < 4096 → is_signed (sign_extended v 12) 12 ≡ true
 signed_12 v small = grind (arith, nat_tests)
@@ -42,3 +42,7 @@ unfolding Spells
 spelled_fits w i here =
     some_passes (λ r. can_be_spelled (r.makes w)) (λ r. IsOf r w × (i ≡ r.makes w)) (can_be_spelled i ≡ true)
     (λ r passes at. ap can_be_spelled at.1 ∙ passes) rows (rows_fit w) here
+
+-- the same of the function
+pub spelled-can_be_spelled : (w : ℕ) (i : Ins) → spelled w ≡ Some i → can_be_spelled i ≡ true
+spelled-can_be_spelled w i found = spelled_fits w i (spelled_spells w i found)

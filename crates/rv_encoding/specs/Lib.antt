@@ -4,3 +4,4 @@ pub mod Formats
 pub mod Parts
 pub mod Rows
 pub mod Words
+pub mod System

@@ -27,9 +27,6 @@ matched n h e = eqb-true _ _ (and_parts (bit_and h (row_of n).mask == (row_of n)
 fields_allowed : (n : CRow) (h : ℕ) → is_of n h ≡ true → allowed (made n h) ≡ true
 fields_allowed n h e = (and_parts (bit_and h (row_of n).mask == (row_of n).match) (allowed (made n h)) e).1
 
-AreApart : CRow → CRow → Type 0
-AreApart n m = (h : ℕ) → is_of n h ≡ true → is_of m h ≡ true → ⊥
-
 apart_by_bits : (n m : CRow) → differ n m ≡ true → (h : ℕ) → is_of n h ≡ true → is_of m h ≡ true → ⊥
 apart_by_bits n m d h e f =
     let yes : (bit_and (row_of n).match (row_of m).mask == bit_and (row_of m).match (row_of n).mask) ≡ true = eq-eqb _ _ (common_bits _ _ (row_of n).mask (row_of m).mask h (matched n h e) (matched m h f)) in

@@ -1,5 +1,5 @@
 -- The half-word of an instruction that fits spells it, by trying each that a row has.
-use Rattle.std.proofs.Common.{◌≡◌, ℕ, ◌+◌, ◌-◌, ◌*◌, ◌/◌, ◌%◌, ◌^◌, ◌<◌, Bool, true, refl, sym, ap, subst, ◌∙◌, arith, add-zero, ◌==◌, ◌&&◌, nat_lt}
+use Rattle.std.proofs.Common.{◌≡◌, ℕ, ◌+◌, ◌-◌, ◌*◌, ◌/◌, ◌%◌, ◌^◌, ◌<◌, Bool, true, Some, refl, sym, ap, subst, ◌∙◌, arith, add-zero, ◌==◌, ◌&&◌, nat_lt}
 use Rattle.std.proofs.lemmas.Bool.{and_parts, eqb-true, ltb-true}
 use Rattle.std.proofs.lemmas.Bool.Decides.{nat_tests}
 use Rattle.std.proofs.Math.Nat.{mod-lt, one-le-pow}
@@ -10,10 +10,12 @@ use Rattle.rvc_encoding.specs.declared.compressed.Cins.{Cins}
 use Rattle.rvc_encoding.specs.declared.row.CRow.{CRow}
 use Rattle.rvc_encoding.specs.declared.row.CRow.TheVariants.{Addi4spn as CAddi4spn, Lw as CLw, Sw as CSw, Nop as CNop, Addi as CAddi, Jal as CJal, Li as CLi, Addi16sp as CAddi16sp, Lui as CLui, Srli as CSrli, Srai as CSrai, Andi as CAndi, Sub as CSub, Xor as CXor, Or as COr, And as CAnd, J as CJ, Beqz as CBeqz, Bnez as CBnez, Slli as CSlli, Lwsp as CLwsp, Jr as CJr, Mv as CMv, Ebreak as CEbreak, Jalr as CJalr, Add as CAdd, Swsp as CSwsp}
 use Rattle.rvc_encoding.specs.Fields.{Register, Full, Short, Always, register_in, names, Immediate, immediate_in, immediate_width, extended, spells_value}
-use Rattle.rvc_encoding.specs.Rows.{row_of, allowed, is_of, Spells16}
+use Rattle.rvc_encoding.specs.Rows.{row_of, allowed, is_of, Spells16, spelled16}
 use Rattle.rvc_encoding.specs.Fits.{fits_row}
 use Rattle.rvc_encoding.specs.Halves.{half_of}
 use Rattle.rvc_encoding.specs.Expansion.{expansion}
+use Rattle.rvc_encoding.proofs.Apart.{spelled_spells}
+use Rattle.rvc_encoding.proofs.Again.{fits-spells}
 use Rattle.rvc_encoding.proofs.Counting.{all_below, below, where_true, holds_where}
 
 -- ---- the values of a field, in order
@@ -134,3 +136,7 @@ half_of-spells c fit =
 -- what fits expands to an instruction that can be spelled
 pub expansion-can_be_spelled : (c : Cins) → fits_row c ≡ true → can_be_spelled (expansion c) ≡ true
 expansion-can_be_spelled c fit = (and_parts (reads_back_from c (half_of c)) (can_be_spelled (expansion c)) (reads_back_where_fits c fit)).1
+
+-- so does what a half-word spells
+pub spelled16-can_be_spelled : (h : ℕ) (c : Cins) → h < 2 ^ 16 → spelled16 h ≡ Some c → can_be_spelled (expansion c) ≡ true
+spelled16-can_be_spelled h c small found = expansion-can_be_spelled c (fits-spells h c small (spelled_spells h c found))
