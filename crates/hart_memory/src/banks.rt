@@ -1,44 +1,47 @@
 // ROM and RAM.
-ghost use Rattle.std.specs.Prelude.{◌≡◌, ◌+◌, ◌*◌, ◌^◌, ◌<◌, ◌≤◌, ◌↔◌, length, IsTrue, IfOk, Some, true};
+ghost use Rattle.std.specs.Prelude.{◌≡◌, ◌+◌, ◌*◌, ◌^◌, ◌<◌, ◌≤◌, ◌↔◌, [], length, IsTrue, IfOk, OnOk, OnErr, Some, true, false, MatchBool};
 ghost use Rattle.hart_memory.specs.Memory.{zero_memory};
+ghost use Rattle.hart_memory.specs.Kept.{with_kept, gone_back};
 ghost use Rattle.hart_memory.specs.Place.{holds, IsInOne};
-ghost use Rattle.hart_memory.specs.Bytes.{number_at, with_number};
 ghost use Rattle.hart_memory.specs.Access.{IsWidth, loaded, stored, byte_at, with_byte};
 
-use crate::address_map::{BANK_LEN, RAM_BASE};
+use crate::address_map::{BANK_LEN, MAX_KEPT, RAM_BASE};
+use crate::bank::Bank;
+use crate::number::number;
 use crate::place::{Place, place_of};
-use byteorder::{ByteOrder, LittleEndian};
 use hart_words::WantOfMemory;
 use std::alloc::Global;
 use std::marker::Model;
 
-/// The two memories, each of 65,536 bytes.
+/// The two memories, each of 65,536 bytes, and the contents that they had when they were kept.
 #[derive(Drop)]
 pub struct Banks {
-    rom: Vec<u8>,
-    ram: Vec<u8>,
+    alloc: Global,
+    rom: Bank,
+    ram: Bank,
 }
 
 impl Model for Banks {
     ghost use Rattle.std.specs.Prelude.{◌≡◌, length};
-    ghost use Rattle.hart_memory.specs.declared.address_map.TheConstants.{BANK_LEN};
     ghost use Rattle.hart_memory.specs.Memory.{Memory};
+    ghost use Rattle.hart_memory.specs.Kept.{Held, both};
 
-    ghost Value = { Memory };
+    ghost Value = { Held Memory };
 
-    ghost view = { λ b. record { rom = b.rom.items; ram = b.ram.items } };
+    ghost view = { λ b. both b.rom b.ram };
 
-    ghost invariant = { λ b. (length b.rom.items ≡ BANK_LEN) × (length b.ram.items ≡ BANK_LEN) };
+    ghost invariant = { λ b. length b.rom.kept ≡ length b.ram.kept };
 }
 
 impl Banks {
-    /// All bytes are 0.
+    /// All bytes are 0, and nothing is kept.
     pub fn new(alloc: Global) -> Result<Banks, WantOfMemory>
-        ensures { IfOk result (λ banks. banks ≡ zero_memory) }
+        ensures { IfOk result (λ banks. banks ≡ record { present = zero_memory; kept = [] }) }
     {
         Ok(Banks {
-            rom: vec![in alloc; 0; BANK_LEN as usize]?,
-            ram: vec![in alloc; 0; BANK_LEN as usize]?,
+            alloc,
+            rom: Bank::new(alloc)?,
+            ram: Bank::new(alloc)?,
         })
     }
 
@@ -51,14 +54,15 @@ impl Banks {
         place_of(at, width).is_in_memory()
     }
 
+    /// The byte at an address.
     #[inline]
     pub fn byte(&self, at: u32) -> u8
         requires { holds at 1 ≡ true }
-        ensures { byte_at self.now at ≡ Some result }
+        ensures { byte_at self.now.present at ≡ Some result }
     {
         match place_of(at, 1) {
-            Place::InRom(k) => self.rom[k as usize],
-            Place::InRam(k) => self.ram[k as usize],
+            Place::InRom(k) => self.rom.bytes()[k as usize],
+            Place::InRam(k) => self.ram.bytes()[k as usize],
             Place::Elsewhere => unreachable!(),
         }
     }
@@ -67,11 +71,11 @@ impl Banks {
     #[inline]
     pub fn place(&mut self, at: u32, value: u8)
         requires { holds at 1 ≡ true }
-        ensures { self.new ≡ with_byte self.old at value }
+        ensures { self.new ≡ record self.old { present = with_byte self.old.present at value } }
     {
         match place_of(at, 1) {
-            Place::InRom(k) => self.rom[k as usize] = value,
-            Place::InRam(k) => self.ram[k as usize] = value,
+            Place::InRom(k) => self.rom.place(k as usize, value),
+            Place::InRam(k) => self.ram.place(k as usize, value),
             Place::Elsewhere => unreachable!(),
         }
     }
@@ -81,12 +85,12 @@ impl Banks {
     pub fn load(&self, at: u32, width: u32) -> u32
         requires width { IsWidth width }
         requires held { holds at width ≡ true }
-        ensures value { loaded self.now at width ≡ Some result }
+        ensures value { loaded self.now.present at width ≡ Some result }
         ensures fits { result < 2 ^ (8 * width) }
     {
         match place_of(at, width) {
-            Place::InRom(k) => number(&self.rom, k as usize, width),
-            Place::InRam(k) => number(&self.ram, k as usize, width),
+            Place::InRom(k) => number(self.rom.bytes(), k as usize, width),
+            Place::InRam(k) => number(self.ram.bytes(), k as usize, width),
             Place::Elsewhere => unreachable!(),
         }
     }
@@ -97,72 +101,75 @@ impl Banks {
         requires width { IsWidth width }
         requires held { holds at width ≡ true }
         requires ram { RAM_BASE ≤ at }
-        ensures { self.new ≡ stored self.old at width value }
+        ensures { self.new ≡ record self.old { present = stored self.old.present at width value } }
     {
         match place_of(at, width) {
-            Place::InRam(k) => put_number(self.ram.as_mut_slice(), k as usize, width, value),
+            Place::InRam(k) => self.ram.put(k as usize, width, value),
             Place::InRom(_) | Place::Elsewhere => unreachable!(),
         }
     }
 
-    /// Two memories with the same bytes.
+    /// Keeps the present bytes. Where `MAX_KEPT` contents were kept, the earliest goes.
+    pub fn keep(&mut self) -> Result<(), WantOfMemory>
+        ensures kept { OnOk result (self.new ≡ with_kept self.old) }
+        ensures unchanged { OnErr result (self.new ≡ self.old) }
+    {
+        let rom = self.rom.difference(self.alloc)?;
+        let ram = self.ram.difference(self.alloc)?;
+        self.rom.keep(rom);
+        self.ram.keep(ram);
+        Ok(())
+    }
+
+    /// Goes back to the bytes that were kept latest. `false`: none are kept, and nothing has changed.
+    pub fn back(&mut self) -> bool
+        ensures state { self.new ≡ gone_back self.old }
+        ensures told { MatchBool result (0 < length self.old.kept) (self.old.kept ≡ []) }
+    {
+        if self.rom.kept() == 0 {
+            return false;
+        }
+        self.rom.back();
+        self.ram.back();
+        true
+    }
+
+    /// How many contents are kept.
+    pub fn kept(&self) -> u32
+        ensures count { result ≡ length self.now.kept }
+        ensures few { result ≤ MAX_KEPT }
+    {
+        self.rom.kept() as u32
+    }
+
+    /// Two memories with the same bytes, of which nothing is kept.
     pub fn copy(&self, alloc: Global) -> Result<Banks, WantOfMemory>
-        ensures { IfOk result (λ banks. banks ≡ self.now) }
+        ensures { IfOk result (λ banks. banks ≡ record { present = self.now.present; kept = [] }) }
     {
         Ok(Banks {
-            rom: Vec::from_slice(alloc, &self.rom)?,
-            ram: Vec::from_slice(alloc, &self.ram)?,
+            alloc,
+            rom: self.rom.copy(alloc)?,
+            ram: self.ram.copy(alloc)?,
         })
     }
 }
 
 impl Banks {
     // The bytes of ROM.
+    #[inline]
     pub(crate) fn rom(&self) -> &[u8]
-        ensures bytes { result.now ≡ self.now.rom }
-        ensures len { length self.now.rom ≡ BANK_LEN }
+        ensures bytes { result.now ≡ self.now.present.rom }
+        ensures len { length self.now.present.rom ≡ BANK_LEN }
     {
-        &self.rom
+        self.rom.bytes()
     }
 
     // The bytes of RAM.
+    #[inline]
     pub(crate) fn ram(&self) -> &[u8]
-        ensures bytes { result.now ≡ self.now.ram }
-        ensures len { length self.now.ram ≡ BANK_LEN }
+        ensures bytes { result.now ≡ self.now.present.ram }
+        ensures len { length self.now.present.ram ≡ BANK_LEN }
     {
-        &self.ram
-    }
-}
-
-// The number in 1, 2 or 4 bytes from a place on.
-#[inline]
-#[tactic(auto, unfolding(crate::specs::Bytes::number_at))]
-fn number(bytes: &[u8], k: usize, width: u32) -> u32
-    requires width { IsWidth width }
-    requires within { k + width ≤ length bytes.now }
-    ensures value { result ≡ number_at bytes.now k width }
-    ensures fits { result < 2 ^ (8 * width) }
-{
-    let rest = &bytes[k..];
-    match width {
-        1 => u32::from(rest[0]),
-        2 => u32::from(LittleEndian::read_u16(rest)),
-        _ => LittleEndian::read_u32(rest),
-    }
-}
-
-// Writes a number into 1, 2 or 4 bytes from a place on.
-#[inline]
-#[tactic(auto, unfolding(crate::specs::Bytes::with_number))]
-fn put_number(bytes: &mut [u8], k: usize, width: u32, value: u32)
-    requires width { IsWidth width }
-    requires within { k + width ≤ length bytes.old }
-    ensures { bytes.new ≡ with_number bytes.old k width value }
-{
-    let rest = &mut bytes[k..];
-    match width {
-        1 => rest[0] = (value & 0xFF) as u8,
-        2 => LittleEndian::write_u16(rest, (value & 0xFFFF) as u16),
-        _ => LittleEndian::write_u32(rest, value),
+        self.ram.bytes()
     }
 }

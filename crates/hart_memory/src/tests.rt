@@ -79,6 +79,52 @@ fn loads_and_stores_at_the_ends(rt: HostRuntime) -> Result<(), Fail> {
     Ok(())
 }
 
+// Of 17 contents, each with a byte more in a page of its own, the first is gone, and each of the others comes back.
+#[test]
+fn contents_that_are_kept(rt: HostRuntime) -> Result<(), Fail> {
+    let mut banks = Banks::new(rt.alloc())?;
+    for k in 0..17u32 {
+        store(&rt, &mut banks, RAM_BASE + 256 * k, 1, 1);
+        banks.keep()?;
+    }
+    assert_eq!(rt; banks.kept(), 16);
+    assert_eq!(rt; banks.copy(rt.alloc())?.kept(), 0);
+    store(&rt, &mut banks, RAM_BASE + 0x1100, 4, 0xA1B2_C3D4);
+    for k in 0..16u32 {
+        let latest = RAM_BASE + 256 * (16 - k);
+        assert!(rt; banks.back());
+        assert_eq!(rt; load(&rt, &banks, latest, 1), 1);
+        assert_eq!(rt; load(&rt, &banks, latest + 256, 4), 0);
+    }
+    assert!(rt; !banks.back());
+    assert_eq!(rt; load(&rt, &banks, RAM_BASE + 256, 1), 1);
+    Ok(())
+}
+
+// Bytes of both memories at the ends of the first page and of the memory, and a number that crosses two pages.
+#[test]
+fn what_is_undone(rt: HostRuntime) -> Result<(), Fail> {
+    let mut banks = Banks::new(rt.alloc())?;
+    let ends = [0, 255, 256, 0xFFFF];
+    for at in ends {
+        place(&rt, &mut banks, at, &[1]);
+        store(&rt, &mut banks, RAM_BASE + at, 1, 2);
+    }
+    banks.keep()?;
+    for at in ends {
+        place(&rt, &mut banks, at, &[3]);
+        store(&rt, &mut banks, RAM_BASE + at, 1, 4);
+    }
+    store(&rt, &mut banks, RAM_BASE + 0x2FE, 4, 0xFFFF_FFFF);
+    assert!(rt; banks.back());
+    for at in ends {
+        assert_eq!(rt; load(&rt, &banks, at, 1), 1);
+        assert_eq!(rt; load(&rt, &banks, RAM_BASE + at, 1), 2);
+    }
+    assert_eq!(rt; load(&rt, &banks, RAM_BASE + 0x2FE, 4), 0);
+    Ok(())
+}
+
 // addi a0, zero, 5 is 00500513, and c.li a0, 5 is 4515.
 #[test]
 fn fetches(rt: HostRuntime) -> Result<(), Fail> {
