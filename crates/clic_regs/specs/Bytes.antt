@@ -3,6 +3,7 @@ use Rattle.std.specs.Prelude.{ℕ, ◌+◌, ◌-◌, ◌*◌, ◌/◌, ◌%◌, 
 use Rattle.std.specs.Option.{option_map}
 use Rattle.std.specs.Int.{from_bool}
 use Rattle.hart_words.specs.Bits.{bits}
+use Rattle.clic_regs.specs.Filled.{filled}
 use Rattle.clic_regs.specs.ClicState.{ClicState, input_count, is_pending, is_enabled, attribute_of, control_of}
 use Rattle.clic_regs.specs.LineChange.{attribute_changed, pending_changed}
 use Rattle.clic_regs.specs.declared.clic_byte.ClicByte.{ClicByte}
@@ -55,7 +56,7 @@ with_byte c value Reserved = c
 with_byte c value (Pending i) = pending_changed c i (bits value 0 1 == 1)
 with_byte c value (Enable i) = record c { enable = slice_set c.enable i (bits value 0 1 == 1) }
 with_byte c value (Attribute i) = attribute_changed c i (bits value 0 3)
-with_byte c value (Control i) = record c { control = slice_set c.control i value }
+with_byte c value (Control i) = record c { control = slice_set c.control i (filled c.shape.bits value) }  -- the bits below can't be written
 
 -- what the byte at an offset reads, and the state after a write there: None where there is no byte
 unfoldable pub byte_read : ClicState → ℕ → Option ℕ

@@ -4,4 +4,4 @@ use Rattle.clic_regs.specs.declared.clic.Clic.TheInside.{Inside}
 
 -- the fields, as contracts see them
 abbrev pub fields : Inside → ClicState
-fields c = record { nlbits = c.nlbits; line = c.line.items; pending = c.pending.items; enable = c.enable.items; attribute = c.attribute.items; control = c.control.items }
+fields c = record { shape = c.shape; nlbits = c.nlbits; line = c.line.items; pending = c.pending.items; enable = c.enable.items; attribute = c.attribute.items; control = c.control.items }

@@ -1,10 +1,11 @@
 -- Levels and priorities (CLIC draft, "Specifying Interrupt Level").
-use Rattle.std.specs.Prelude.{ℕ, ◌+◌, ◌-◌, ◌%◌, ◌^◌}
+use Rattle.std.specs.Prelude.{ℕ, ◌-◌, ◌%◌, ◌^◌}
+use Rattle.clic_regs.specs.Filled.{filled}
 use Rattle.clic_regs.specs.ClicState.{ClicState, control_of}
 
 -- the level of a control byte: its upper nlbits bits, with the bits below filled with ones
 abbrev pub level : ℕ → ℕ → ℕ
-level nlbits control = control - control % 2 ^ (8 - nlbits) + 2 ^ (8 - nlbits) - 1
+level nlbits control = filled nlbits control
 
 -- its priority: the bits below
 abbrev pub priority : ℕ → ℕ → ℕ

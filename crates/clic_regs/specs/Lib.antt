@@ -1,4 +1,6 @@
 pub mod Attribute
+pub mod Filled
+pub mod Shape
 pub mod ClicState
 pub mod Fields
 pub mod Level

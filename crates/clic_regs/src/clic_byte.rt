@@ -2,7 +2,7 @@
 ghost use Rattle.std.specs.Prelude.{◌≡◌, ◌+◌, ◌*◌, ◌<◌, ◌≤◌, ◌↔◌, ℕ, Some};
 ghost use Rattle.clic_regs.specs.Bytes.{input_at};
 
-use crate::INPUTS;
+use crate::shape::Shape;
 
 /// A byte of the controller's registers. Those of an input have its number.
 #[derive(Clone, Copy, Debug, PartialEq, Eq, Drop)]
@@ -50,11 +50,11 @@ impl ClicByte {
 /// The input one of whose four bytes stands at an offset from the controller's first address.
 #[inline]
 #[tactic(auto, unfolding(crate::specs::Bytes::input_at))]
-pub fn input_of(offset: u32) -> Option<u32>
-    ensures value { result ≡ input_at INPUTS offset }
-    ensures exact { (i : ℕ) → (result ≡ Some i) ↔ ((i < INPUTS) × (0x1000 + 4 * i ≤ offset) × (offset < 0x1004 + 4 * i)) }
+pub fn input_of(offset: u32, shape: Shape) -> Option<u32>
+    ensures value { result ≡ input_at shape.inputs offset }
+    ensures exact { (i : ℕ) → (result ≡ Some i) ↔ ((i < shape.inputs) × (0x1000 + 4 * i ≤ offset) × (offset < 0x1004 + 4 * i)) }
 {
-    match ClicByte::at(offset, INPUTS) {
+    match ClicByte::at(offset, shape.inputs()) {
         None | Some(ClicByte::Config | ClicByte::Reserved) => None,
         Some(ClicByte::Pending(i)) => Some(i),
         Some(ClicByte::Enable(i)) => Some(i),

@@ -6,11 +6,10 @@ mod clic;
 mod clic_byte;
 pub mod laws;
 mod level;
+mod shape;
 #[cfg(test)]
 mod tests;
 
 pub use clic::Clic;
 pub use clic_byte::{ClicByte, input_of};
-
-/// How many inputs the controller has.
-pub const INPUTS: u32 = 64;
+pub use shape::Shape;

@@ -1,20 +1,54 @@
 use super::*;
 use std::test::Fail;
 
-// cliccfg, a control byte, and the level and the priority that the draft gives them.
+fn level_and_priority(clic: &Clic, i: u32) -> [u8; 2] {
+    if i < clic.shape().inputs() {
+        [clic.level_of(i), clic.priority_of(i)]
+    } else {
+        [0, 0]
+    }
+}
+
+// A shape's bits, cliccfg, what is written to a control byte, and what is then read, the level and the priority.
 #[test]
 fn levels_and_priorities(rt: HostRuntime) -> Result<(), Fail> {
     let rows = [
-        (0x02, 0x40, 127, 64),
-        (0x02, 0xC0, 255, 64),
-        (0x00, 0x40, 255, 64),
-        (0x10, 0x40, 64, 0),
+        (8, 0x02, 0x40, [0x40, 127, 64]),
+        (8, 0x02, 0xC0, [0xC0, 255, 64]),
+        (8, 0x00, 0x40, [0x40, 255, 64]),
+        (8, 0x10, 0x40, [0x40, 64, 0]),
+        (3, 0x02, 0x40, [0x5F, 127, 95]),
+        (3, 0x04, 0x40, [0x5F, 127, 31]),
+        (0, 0x10, 0x40, [0xFF, 255, 0]),
     ];
-    for (config, control, level, priority) in rows {
-        let mut clic = Clic::new(rt.alloc())?;
+    for (bits, config, control, want) in rows {
+        let shape = Shape::of(64, bits).unwrap_or(Shape::plain());
+        let mut clic = Clic::new(rt.alloc(), shape)?;
         assert!(rt; clic.write(0, config) && clic.write(0x100F, control));
-        assert_eq!(rt; clic.level_of(3), level, "of {control}");
-        assert_eq!(rt; clic.priority_of(3), priority, "of {control}");
+        let read = clic.read(0x100F).unwrap_or(0);
+        let [level, priority] = level_and_priority(&clic, 3);
+        assert_eq!(rt; [read, level, priority], want, "of {control} with {bits}");
+    }
+    Ok(())
+}
+
+// The inputs and the bits of a shape, the last offset, and the control byte at reset.
+#[test]
+fn shapes(rt: HostRuntime) -> Result<(), Fail> {
+    for (inputs, bits, last, control) in [
+        (24, 8, 0x105F, 0x00),
+        (64, 0, 0x10FF, 0xFF),
+        (65, 2, 0x1103, 0x3F),
+        (1024, 7, 0x1FFF, 0x01),
+    ] {
+        let shape = Shape::of(inputs, bits).unwrap_or(Shape::plain());
+        let mut clic = Clic::new(rt.alloc(), shape)?;
+        assert_eq!(rt; clic.read(last), Some(control));
+        assert_eq!(rt; clic.read(last + 1), None);
+        assert!(rt; clic.write(last, 0xFF) && !clic.write(last + 1, 0xFF));
+        assert_eq!(rt; input_of(last, shape), Some(shape.inputs() - 1));
+        assert_eq!(rt; input_of(last + 1, shape), None);
+        assert!(rt; clic.shape() == shape && clic.copy(rt.alloc())?.shape() == shape);
     }
     Ok(())
 }
@@ -22,7 +56,7 @@ fn levels_and_priorities(rt: HostRuntime) -> Result<(), Fail> {
 // The same word twice to a fresh input: at first its pending byte comes while it is a level input.
 #[test]
 fn bytes(rt: HostRuntime) -> Result<(), Fail> {
-    let mut clic = Clic::new(rt.alloc())?;
+    let mut clic = Clic::new(rt.alloc(), Shape::plain())?;
     let wanted = [[0x00, 0x01, 0xC2, 0x7F], [0x01, 0x01, 0xC2, 0x7F]];
     for want in wanted {
         for (offset, value) in [
@@ -36,7 +70,6 @@ fn bytes(rt: HostRuntime) -> Result<(), Fail> {
         let read = [0x1014, 0x1015, 0x1016, 0x1017].map(|offset| clic.read(offset));
         assert_eq!(rt; read, want.map(Some));
     }
-    assert!(rt; clic.pending(5) && clic.enabled(5) && !clic.hard_vectored(5));
     assert!(rt; clic.write(0, 0x12) && clic.write(2, 0xFF));
     let config = [0, 1, 2, 3].map(|offset| clic.read(offset));
     assert_eq!(rt; config, [Some(0), Some(0), Some(0), Some(0)]);
@@ -57,7 +90,7 @@ fn lines(rt: HostRuntime) -> Result<(), Fail> {
         (6, [false, true, false]),
     ];
     for (attribute, want) in rows {
-        let mut clic = Clic::new(rt.alloc())?;
+        let mut clic = Clic::new(rt.alloc(), Shape::plain())?;
         assert!(rt; clic.write(0x10FE, attribute));
         clic.set_line(63, true);
         let risen = clic.pending(63);
@@ -83,6 +116,6 @@ fn inputs_by_offset(rt: HostRuntime) {
         (0x1100, None),
     ];
     for (offset, input) in rows {
-        assert_eq!(rt; input_of(offset), input, "at {offset}");
+        assert_eq!(rt; input_of(offset, Shape::plain()), input, "at {offset}");
     }
 }

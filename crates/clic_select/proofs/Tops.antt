@@ -1,10 +1,10 @@
 -- The top is the greatest: by induction on how many inputs were looked at.
-use Rattle.std.proofs.Common.{◌≡◌, ◌≢◌, ℕ, zero, suc, ◌+◌, ◌<◌, ◌≤◌, ◌==◌, ◌↔◌, ◌&&◌, Bool, true, false, cond, List, [], ◌∷◌, length, get_or, set, Option, Some, None, IsTrue, IfSome, IsNone, is_some, not, refl, sym, ap, ◌∙◌, subst, add-one, get_or-set_other, rules, arith}
+use Rattle.std.proofs.Common.{◌≡◌, ◌≢◌, ℕ, zero, suc, ◌<◌, ◌≤◌, ◌==◌, ◌↔◌, ◌&&◌, Bool, true, false, cond, List, [], ◌∷◌, length, get_or, set, Option, Some, None, IfSome, IsNone, refl, sym, ap, ◌∙◌, subst, rules, arith}
 use Rattle.std.proofs.lemmas.Bool.{false≢true}
 use Rattle.std.proofs.lemmas.Bool.Decides.{nat_tests}
-use Rattle.clic_regs.specs.ClicState.{ClicState, IsClicState, is_pending, is_enabled, attribute_of}
+use Rattle.clic_regs.specs.ClicState.{ClicState, is_pending, is_enabled, attribute_of, control_of}
 use Rattle.clic_regs.specs.Attribute.{is_edge}
-use Rattle.clic_regs.specs.LineChange.{line_changed, claimed, pending_changed}
+use Rattle.clic_regs.specs.LineChange.{claimed, pending_changed}
 use Rattle.clic_regs.specs.Level.{level_of}
 use Rattle.clic_regs.proofs.Levels.{level_of-lt}
 use Rattle.clic_select.specs.declared.choice.Choice.{Choice}
@@ -183,8 +183,8 @@ pub claimed_level : (c : ClicState) (t u : Choice) → top c ≡ Some t → top 
 claimed_level c t u e f = not_above u t (claimed_order c t u e f)
 
 -- the level of the top is a byte
-pub top_level-lt : (c : ClicState) (t : Choice) → IsClicState c → top c ≡ Some t → t.level < 256
-top_level-lt c t h e = let same : t.level ≡ level_of c t.id = ap (λ x. x.level) (top_is c t e).input in rw same (level_of-lt c t.id h)
+pub top_level-lt : (c : ClicState) (t : Choice) → c.nlbits ≤ 8 → ((i : ℕ) → control_of c i < 256) → top c ≡ Some t → t.level < 256
+top_level-lt c t few small e = let same : t.level ≡ level_of c t.id = ap (λ x. x.level) (top_is c t e).input in rw same (level_of-lt c t.id few (small t.id))
 
 -- what is equal to the top, as an answer
 pub found_top : (c : ClicState) (found : Option Choice) → found ≡ top c → IfSome found (IsTop c)
@@ -195,31 +195,6 @@ pub found_none : (c : ClicState) (found : Option Choice) → found ≡ top c →
 found_none c None e = (λ h. none_waits c (sym e), λ h. search rules)
 found_none c (Some t) e = (λ h. absurd (search rules), λ h. let none = no_top c h in cc)
 
-pub found_input : (c : ClicState) (found : Option Choice) (n : ℕ) → found ≡ top c → length c.pending ≡ n → IfSome found (λ t. t.id < n)
-found_input c None n e l = tt
-found_input c (Some t) n e l = omega (arith, top_id-lt c t (sym e))
-
--- what is empty where there is no top, as a test
-pub quiet_found : (c : ClicState) (found : Option Choice) (quiet : Bool) → found ≡ top c → is_some found ≡ not quiet → IsTrue quiet ↔ NoneWaits c
-quiet_found c None true e t = (λ h. none_waits c (sym e), λ h. refl)
-quiet_found c None false e t = absurd (false≢true t)
-quiet_found c (Some s) true e t = absurd (false≢true (sym t))
-quiet_found c (Some s) false e t = (λ h. absurd (false≢true h), λ h. let none = no_top c h in cc)
-
--- one more input, as the loop looks at it
-pub greatest_more : (c : ClicState) (n : ℕ) → is_waiting c n ≡ true → greatest_of c (n + 1) ≡ Some (greater (greatest_of c n) (choice_of c n))
-unfolding greatest_of
-greatest_more c n w = rw (add-one, w) refl
-
-pub greatest_same : (c : ClicState) (n : ℕ) → is_waiting c n ≡ false → greatest_of c (n + 1) ≡ greatest_of c n
-unfolding greatest_of
-greatest_same c n w = rw (add-one, w) refl
-
--- where nothing waited, and the input whose line is set doesn't, nothing does
-quiet_by : (c : ClicState) (i j : ℕ) (high same : Bool) → (j == i) ≡ same → NoneWaits c → is_waiting (line_changed c i high) i ≡ false → is_waiting (line_changed c i high) j ≡ false
-unfolding line_changed
-quiet_by c i j high true s none here = let e : i ≡ j = grind (arith, nat_tests) in subst (λ k. is_waiting (line_changed c i high) k ≡ false) e here
-quiet_by c i j high false s none here = let other : j ≢ i = grind (arith, nat_tests) in rw get_or-set_other (none j)
-
-pub line_quiet : (c : ClicState) (i : ℕ) (high : Bool) → NoneWaits c → is_waiting (line_changed c i high) i ≡ false → NoneWaits (line_changed c i high)
-line_quiet c i high none here j = quiet_by c i j high _ refl none here
+pub found_below : (c : ClicState) (found : Option Choice) (n m : ℕ) → found ≡ top c → length c.pending ≡ n → n ≤ m → IfSome found (λ t. t.id < m)
+found_below c None n m e l k = tt
+found_below c (Some t) n m e l k = omega (arith, top_id-lt c t (sym e))

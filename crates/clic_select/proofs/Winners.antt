@@ -1,13 +1,13 @@
 -- The root of the tree is the top, and how nodes are mended.
-use Rattle.std.proofs.Common.{◌≡◌, ◌≢◌, ℕ, zero, suc, ◌+◌, ◌-◌, ◌*◌, ◌/◌, ◌%◌, ◌^◌, ◌<◌, ◌≤◌, ◌==◌, List, [], ◌∷◌, Bool, true, false, cond, nat_lt, length, get_or, set, get_or-set_other, Option, Some, None, refl, sym, ap, ◌∙◌, arith}
-use Rattle.std.proofs.Math.Nat.{mul-le-mul_right}
+use Rattle.std.proofs.Common.{◌≡◌, ◌≢◌, ℕ, zero, suc, ◌+◌, ◌-◌, ◌*◌, ◌/◌, ◌%◌, ◌<◌, ◌≤◌, ◌==◌, List, [], ◌∷◌, Bool, true, false, cond, nat_lt, length, get_or, set, get_or-set_other, Option, Some, None, refl, sym, ap, ◌∙◌, arith}
+use Rattle.std.proofs.lemmas.Int.Digits.{length-digits_of_step}
 use Rattle.std.proofs.lemmas.Bool.{false≢true}
 use Rattle.std.proofs.lemmas.Bool.Decides.{nat_tests}
 use Rattle.std.proofs.lemmas.Grind.{common_steps, get_or-set_at}
 use Rattle.clic_regs.specs.ClicState.{ClicState}
 use Rattle.clic_select.specs.declared.choice.Choice.{Choice}
 use Rattle.clic_select.specs.Top.{is_waiting, choice_of, IsTop, top}
-use Rattle.clic_select.specs.Tree.{beats, winner, node, waiting, IsWinner, IsTree, HasLeaves}
+use Rattle.clic_select.specs.Tree.{beats, winner, node, waiting, IsWinner, IsTree, HasLeaves, binary_digits}
 use Rattle.clic_select.proofs.Tops.{not_above_itself, not_both, not_above_the_greater, waits_inside, top_was, no_top}
 
 -- ---- the order of winners
@@ -153,15 +153,25 @@ same_children nodes k v j a b = sym (ap (λ x. winner x (node (set nodes k v) (2
 pub mend_step : (n : ℕ) (nodes : List (Option Choice)) (k : ℕ) (v : Option Choice) → k < n → length nodes ≡ 2 * n → ((j : ℕ) → 1 ≤ j → j < n → j ≢ k → IsWinner nodes j) → v ≡ winner (node nodes (2 * k)) (node nodes (2 * k + 1)) → (j : ℕ) → 1 ≤ j → j < n → j ≢ k / 2 → IsWinner (set nodes k v) j
 mend_step n nodes k v l size right is j a b other = written n nodes k v j l size (right j a b) is ∙ same_children nodes k v j (omega arith) (omega arith)
 
--- from the last node that is no leaf to the root
-pub mend_more : (n : ℕ) (nodes : List (Option Choice)) (k : ℕ) (v : Option Choice) → 1 ≤ k → k < n → length nodes ≡ 2 * n → ((j : ℕ) → k < j → j < n → IsWinner nodes j) → v ≡ winner (node nodes (2 * k)) (node nodes (2 * k + 1)) → (j : ℕ) → k ≤ j → j < n → IsWinner (set nodes k v) j
-mend_more n nodes k v some l size right is j a b = written n nodes k v j l size (λ other. right j (omega (arith, other)) b) is ∙ same_children nodes k v j (omega arith) (omega arith)
+-- ---- how many nodes stand above a leaf
 
-pub pow-suc : (h : ℕ) → 2 ^ suc h ≡ 2 * 2 ^ h
-pow-suc h = omega arith
+pub digits_half : (k : ℕ) → 0 < k → binary_digits k ≡ binary_digits (k / 2) + 1
+digits_half k some = length-digits_of_step 2 k (omega arith) some
 
-pub halved : (k p n : ℕ) → k * p < n → (k / 2) * (2 * p) < n
-halved k p n h = let le : k / 2 * 2 ≤ k = omega arith in let more = mul-le-mul_right p le in omega arith
+digits_none : binary_digits 0 ≡ 0
+digits_none = refl
+
+digits_more_by : (fuel a b : ℕ) → a ≤ b → b ≤ fuel → (some : Bool) → nat_lt 0 a ≡ some → binary_digits a ≤ binary_digits b
+digits_more_by fuel a b l m false t = let none : a ≡ 0 = grind (arith, nat_tests) in rw none (omega (arith, digits_none))
+digits_more_by zero a b l m true t = let some : 0 < a = grind (arith, nat_tests) in absurd (omega arith)
+digits_more_by (suc fuel) a b l m true t =
+    let some : 0 < a = grind (arith, nat_tests) in
+    let below = digits_more_by fuel (a / 2) (b / 2) (omega arith) (omega arith) _ refl in
+    omega (arith, below, digits_half a some, digits_half b (omega arith))
+
+-- a greater number has no fewer
+pub digits_more : (a b : ℕ) → a ≤ b → binary_digits a ≤ binary_digits b
+digits_more a b l = digits_more_by b a b l (omega arith) _ refl
 
 -- any place that is read past the list's default
 get_or_any : (xs : List (Option Choice)) (i : ℕ) (d e : Option Choice) → i < length xs → get_or xs i d ≡ get_or xs i e

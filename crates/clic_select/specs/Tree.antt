@@ -1,7 +1,8 @@
 -- The tree of winners that a selector keeps. Node 1 is the root, the children of node k are 2 k and 2 k + 1, and
--- input i has the leaf n + i, where there are n inputs.
+-- input i has the leaf n + i, where there are n inputs: any number of them.
 use Rattle.std.specs.Prelude.{◌≡◌, ℕ, ◌+◌, ◌*◌, ◌<◌, ◌≤◌, List, Bool, true, false, Option, Some, None, length, get_or, if◌then◌else◌}
-use Rattle.clic_regs.specs.ClicState.{ClicState}
+use Rattle.std.specs.Int.Digits.{digits_of}
+use Rattle.clic_regs.specs.ClicState.{ClicState, IsClicState, input_count}
 use Rattle.clic_select.specs.Top.{is_waiting, choice_of, is_greater}
 use Rattle.clic_select.specs.declared.choice.Choice.{Choice}
 
@@ -35,8 +36,12 @@ waiting c i = if is_waiting c i then Some (choice_of c i) else None
 abbrev pub HasLeaves : ClicState → ℕ → List (Option Choice) → Type 0
 HasLeaves c n nodes = (i : ℕ) → i < n → node nodes (n + i) ≡ waiting c i
 
--- the nodes are those of the controller, which has n inputs
-pub record Selects (c : ClicState) (n : ℕ) (nodes : List (Option Choice)) : Type 0 where
-  pub inputs : length c.pending ≡ n
-  pub tree : IsTree n nodes
-  pub leaves : HasLeaves c n nodes
+-- the nodes are those of the controller
+pub record Selects (c : ClicState) (nodes : List (Option Choice)) : Type 0 where
+  pub state : IsClicState c
+  pub tree : IsTree (input_count c) nodes
+  pub leaves : HasLeaves c (input_count c) nodes
+
+-- how many binary digits a number has: none for 0
+abbrev pub binary_digits : ℕ → ℕ
+binary_digits n = length (digits_of 2 n)

@@ -1,7 +1,7 @@
 // An input as the selection sees it.
 ghost use Rattle.std.specs.Prelude.{◌≡◌, ◌<◌};
 
-use clic_regs::{Clic, INPUTS};
+use clic_regs::Clic;
 
 /// An input with its level, its priority, and whether the hardware takes its handler from the
 /// table of vectors.
@@ -14,12 +14,13 @@ pub struct Choice {
 }
 
 impl Choice {
+    ghost use Rattle.clic_regs.specs.ClicState.{input_count};
     ghost use Rattle.clic_select.specs.Top.{choice_of, is_greater};
 
     /// An input of the controller.
     #[inline]
     pub(crate) fn of(clic: &Clic, id: u32) -> Choice
-        requires { id < INPUTS }
+        requires { id < input_count clic.now }
         ensures { result ≡ choice_of clic.now id }
     {
         Choice {

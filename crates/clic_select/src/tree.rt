@@ -1,21 +1,12 @@
 // The nodes of the tree of winners.
-ghost use Rattle.std.specs.Prelude.{◌≡◌, ◌≢◌, ℕ, ◌+◌, ◌*◌, ◌/◌, ◌<◌, ◌≤◌, length};
+ghost use Rattle.std.specs.Prelude.{◌≡◌, ◌≢◌, ℕ, ◌+◌, ◌-◌, ◌*◌, ◌/◌, ◌<◌, ◌≤◌, length};
 ghost use Rattle.clic_regs.specs.ClicState.{input_count};
-ghost use Rattle.clic_select.specs.Tree.{beats, winner, node, waiting, IsWinner, IsTree, HasLeaves, Selects};
+ghost use Rattle.clic_select.specs.Tree.{beats, winner, node, waiting, IsWinner, IsTree, HasLeaves, Selects, binary_digits};
 
 use crate::choice::Choice;
 use crate::steps::Steps;
-use clic_regs::{Clic, INPUTS};
+use clic_regs::Clic;
 use std::sync::ledger::Ledger;
-
-/// How many nodes the tree has, of which the first is not used.
-pub const NODES: usize = 128;
-
-// How many nodes are no leaf, and the place of the first leaf.
-const FIRST_LEAF: usize = 64;
-
-// How many nodes stand above a leaf.
-const HEIGHT: u32 = 6;
 
 /// Whether the first is there and the second is not, or the first is greater. One call is one step.
 #[inline]
@@ -43,7 +34,7 @@ fn winner<L: Ledger>(a: Option<Choice>, b: Option<Choice>, steps: &mut Steps<L>)
 // An input as a choice, where it is pending and enabled.
 #[inline]
 pub(crate) fn waiting(clic: &Clic, i: u32) -> Option<Choice>
-    requires { i < INPUTS }
+    requires { i < input_count clic.now }
     ensures { result ≡ waiting clic.now i }
 {
     if clic.pending(i) && clic.enabled(i) {
@@ -53,26 +44,18 @@ pub(crate) fn waiting(clic: &Clic, i: u32) -> Option<Choice>
     }
 }
 
-// How many inputs there are.
-#[inline]
-pub(crate) fn has_inputs(clic: &Clic)
-    ensures count { input_count clic.now ≡ INPUTS }
-    ensures pending { length clic.now.pending ≡ INPUTS }
-{
-    let _ = clic.inputs();
-}
-
 // Mends the nodes above a leaf, from the lowest to the root.
-fn mend<L: Ledger>(nodes: &mut [Option<Choice>], leaf: u32, steps: &mut Steps<L>)
-    requires size { length nodes.old ≡ NODES }
-    requires leaf { leaf < INPUTS }
-    requires others { (k : ℕ) → 1 ≤ k → k < INPUTS → k ≢ (leaf + INPUTS) / 2 → IsWinner nodes.old k }
-    ensures tree { IsTree INPUTS nodes.new }
-    ensures leaves { (k : ℕ) → INPUTS ≤ k → node nodes.new k ≡ node nodes.old k }
-    ensures cost { steps.new ≤ steps.old + 6 }
+fn mend<L: Ledger>(nodes: &mut [Option<Choice>], inputs: usize, leaf: usize, steps: &mut Steps<L>)
+    requires size { length nodes.old ≡ 2 * inputs }
+    requires leaf { leaf < inputs }
+    requires others { (k : ℕ) → 1 ≤ k → k < inputs → k ≢ (leaf + inputs) / 2 → IsWinner nodes.old k }
+    ensures tree { IsTree inputs nodes.new }
+    ensures leaves { (k : ℕ) → inputs ≤ k → node nodes.new k ≡ node nodes.old k }
+    ensures counts { steps.old ≤ steps.new }
+    ensures cost { steps.new ≤ steps.old + binary_digits (inputs - 1) }
 {
-    let mut k = (leaf as usize + FIRST_LEAF) / 2;
-    for height in 0..HEIGHT {
+    let mut k = (leaf + inputs) / 2;
+    while k > 0 {
         nodes[k] = winner(nodes[2 * k], nodes[2 * k + 1], steps);
         k /= 2;
     }
@@ -85,48 +68,54 @@ pub(crate) fn refresh<L: Ledger>(
     nodes: &mut [Option<Choice>],
     steps: &mut Steps<L>,
 )
-    requires input { i < INPUTS }
-    requires tree { IsTree INPUTS nodes.old }
-    requires others { (j : ℕ) → j < INPUTS → j ≢ i → node nodes.old (INPUTS + j) ≡ waiting clic.now j }
-    ensures selects { Selects clic.now INPUTS nodes.new }
-    ensures cost { steps.new ≤ steps.old + 6 }
+    requires input { i < input_count clic.now }
+    requires tree { IsTree (input_count clic.now) nodes.old }
+    requires others { (j : ℕ) → j < input_count clic.now → j ≢ i → node nodes.old (input_count clic.now + j) ≡ waiting clic.now j }
+    ensures selects { Selects clic.now nodes.new }
+    ensures counts { steps.old ≤ steps.new }
+    ensures cost { steps.new ≤ steps.old + binary_digits (input_count clic.now - 1) }
 {
-    has_inputs(clic);
-    nodes[i as usize + FIRST_LEAF] = waiting(clic, i);
-    mend(nodes, i, steps);
+    let inputs = clic.shape().inputs() as usize;
+    let leaf = i as usize;
+    nodes[leaf + inputs] = waiting(clic, i);
+    mend(nodes, inputs, leaf, steps);
 }
 
 // Puts each input into its leaf.
-fn fill_leaves(clic: &Clic, nodes: &mut [Option<Choice>])
-    requires { length nodes.old ≡ NODES }
-    ensures size { length nodes.new ≡ NODES }
-    ensures leaves { HasLeaves clic.now INPUTS nodes.new }
+fn fill_leaves(clic: &Clic, nodes: &mut [Option<Choice>], inputs: u32)
+    requires inputs { inputs ≡ input_count clic.now }
+    requires size { length nodes.old ≡ 2 * inputs }
+    ensures size { length nodes.new ≡ 2 * inputs }
+    ensures leaves { HasLeaves clic.now inputs nodes.new }
 {
-    for i in 0..INPUTS {
-        nodes[i as usize + FIRST_LEAF] = waiting(clic, i);
+    for i in 0..inputs {
+        nodes[i as usize + inputs as usize] = waiting(clic, i);
     }
 }
 
 // Mends all nodes, from the last one that is no leaf to the root.
-fn mend_all<L: Ledger>(nodes: &mut [Option<Choice>], steps: &mut Steps<L>)
-    requires { length nodes.old ≡ NODES }
-    ensures tree { IsTree INPUTS nodes.new }
-    ensures leaves { (k : ℕ) → INPUTS ≤ k → node nodes.new k ≡ node nodes.old k }
-    ensures cost { steps.new ≤ steps.old + 63 }
+fn mend_all<L: Ledger>(nodes: &mut [Option<Choice>], inputs: usize, steps: &mut Steps<L>)
+    requires some { 0 < inputs }
+    requires size { length nodes.old ≡ 2 * inputs }
+    ensures tree { IsTree inputs nodes.new }
+    ensures leaves { (k : ℕ) → inputs ≤ k → node nodes.new k ≡ node nodes.old k }
+    ensures counts { steps.old ≤ steps.new }
+    ensures cost { steps.new ≤ steps.old + (inputs - 1) }
 {
-    for done in 1..FIRST_LEAF {
-        let k = FIRST_LEAF - done;
+    for done in 1..inputs {
+        let k = inputs - done;
         nodes[k] = winner(nodes[2 * k], nodes[2 * k + 1], steps);
     }
 }
 
 /// Puts each input into its leaf, and mends all nodes.
 pub(crate) fn rebuild<L: Ledger>(clic: &Clic, nodes: &mut [Option<Choice>], steps: &mut Steps<L>)
-    requires { length nodes.old ≡ NODES }
-    ensures selects { Selects clic.now INPUTS nodes.new }
-    ensures cost { steps.new ≤ steps.old + 63 }
+    requires { length nodes.old ≡ 2 * input_count clic.now }
+    ensures selects { Selects clic.now nodes.new }
+    ensures counts { steps.old ≤ steps.new }
+    ensures cost { steps.new ≤ steps.old + (input_count clic.now - 1) }
 {
-    has_inputs(clic);
-    fill_leaves(clic, nodes);
-    mend_all(nodes, steps);
+    let inputs = clic.shape().inputs();
+    fill_leaves(clic, nodes, inputs);
+    mend_all(nodes, inputs as usize, steps);
 }

@@ -1,11 +1,11 @@
 // Interrupt entry.
 ghost use Rattle.std.specs.Prelude.{◌≡◌, ◌↔◌, ◌<◌, ◌%◌, ℕ, IsTrue, Some, true, false};
 ghost use Rattle.hart_memory.specs.Place.{holds};
+ghost use Rattle.clic_regs.specs.ClicState.{input_count};
 ghost use Rattle.clic_select.specs.Top.{top};
 ghost use Rattle.clic_trap.specs.Entry.{entered, entered_by, interrupted, vector_address, GoesToEven};
 
 use crate::vector::vector_address;
-use clic_regs::INPUTS;
 use clic_select::{Choice, Selector};
 use csr_file::Csrs;
 use hart_memory::Banks;
@@ -32,7 +32,7 @@ pub fn enter_interrupt(
 ) -> Entered
     requires top { top select.old ≡ Some choice }
     requires even { pc % 2 ≡ 0 }
-    ensures outcome { record { answer = result; csrs = csrs.new; clic = select.new } ≡ entered csrs.old select.old banks.now choice pc }
+    ensures outcome { record { answer = result; csrs = csrs.new; clic = select.new } ≡ entered csrs.old select.old banks.now.present choice pc }
     ensures fault { (id : ℕ) → (result ≡ Entered.VectorFault id)
         ↔ ((id ≡ choice.id) × IsTrue choice.shv × (holds (vector_address csrs.old choice.id) 4 ≡ false)) }
     ensures kept { (id : ℕ) → result ≡ Entered.VectorFault id → (csrs.new ≡ csrs.old) × (select.new ≡ select.old) }
@@ -51,9 +51,10 @@ pub fn enter_interrupt(
 #[inline]
 fn is_an_input(select: &Selector, choice: Choice)
     requires { top select.now ≡ Some choice }
-    ensures { choice.id < INPUTS }
+    ensures input { choice.id < input_count select.now }
+    ensures number { choice.id < 1024 }
 {
-    let _ = select.clic().inputs();
+    let _ = select.shape();
 }
 
 // Enters a hardware-vectored interrupt.
@@ -64,9 +65,10 @@ fn enter_through_table(
     choice: Choice,
     pc: u32,
 ) -> Entered
-    requires input { choice.id < INPUTS }
+    requires input { choice.id < input_count select.old }
+    requires number { choice.id < 1024 }
     requires even { pc % 2 ≡ 0 }
-    ensures outcome { record { answer = result; csrs = csrs.new; clic = select.new } ≡ entered_by true csrs.old select.old banks.now choice pc }
+    ensures outcome { record { answer = result; csrs = csrs.new; clic = select.new } ≡ entered_by true csrs.old select.old banks.now.present choice pc }
     ensures fault { (id : ℕ) → (result ≡ Entered.VectorFault id) ↔ ((id ≡ choice.id) × (holds (vector_address csrs.old choice.id) 4 ≡ false)) }
     ensures kept { (id : ℕ) → result ≡ Entered.VectorFault id → (csrs.new ≡ csrs.old) × (select.new ≡ select.old) }
     ensures even_pc { GoesToEven result }
@@ -84,7 +86,7 @@ fn enter_through_table(
 // The changes that every interrupt entry makes.
 #[inline]
 fn begin_interrupt(csrs: &mut Csrs, choice: Choice, pc: u32)
-    requires input { choice.id < INPUTS }
+    requires number { choice.id < 1024 }
     requires even { pc % 2 ≡ 0 }
     ensures { csrs.new ≡ interrupted csrs.old choice pc }
 {

@@ -1,2 +1,2 @@
-mod Bits
-mod WrittenBack
+pub mod Bits
+pub mod WrittenBack

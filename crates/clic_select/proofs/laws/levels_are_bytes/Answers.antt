@@ -2,4 +2,4 @@ use Rattle.clic_select.proofs.Tops.{top_level-lt}
 use Rattle.clic_select.proofs.laws.levels_are_bytes.Goals as goal
 
 pub returns : goal.returns
-returns c = top_level-lt
+returns c s t h e = top_level-lt s t h.nlbits h.controls e

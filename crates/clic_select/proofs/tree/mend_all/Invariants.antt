@@ -1,4 +1,4 @@
-use Rattle.std.proofs.Common.{◌≡◌, ℕ, ◌+◌, ◌-◌, ◌<◌, ◌≤◌, length}
+use Rattle.std.proofs.Common.{◌≡◌, ℕ, ◌+◌, ◌-◌, ◌*◌, ◌<◌, ◌≤◌, length}
 use Rattle.clic_select.specs.Tree.{node, IsWinner}
 use Rattle.clic_select.proofs.tree.mend_all.Given as goal
 
@@ -6,8 +6,9 @@ use Rattle.clic_select.proofs.tree.mend_all.Given as goal
 abbrev pub invariant-loop-done : goal.invariant-loop-done
 invariant-loop-done g l = record {
   some : 1 ≤ l.done;
-  size : length l.nodes ≡ 128;
-  mended : (j : ℕ) → 64 - l.done < j → j < 64 → IsWinner l.nodes j;
-  leaves : (j : ℕ) → 64 ≤ j → node l.nodes j ≡ node l.fn.nodes j;
+  size : length l.nodes ≡ 2 * l.inputs;
+  mended : (j : ℕ) → l.inputs - l.done < j → j < l.inputs → IsWinner l.nodes j;
+  leaves : (j : ℕ) → l.inputs ≤ j → node l.nodes j ≡ node l.fn.nodes j;
+  counts : l.fn.steps ≤ l.steps;
   cost : l.steps + 1 ≤ l.fn.steps + l.done;
 }
