@@ -28,6 +28,7 @@ use Rattle.clic_trap.specs.declared.claim.Claim.TheVariants.{Read, Set, Clear}
 use Rattle.clic_trap.specs.declared.csr_request.CsrRequest.{CsrRequest}
 use Rattle.clic_trap.specs.declared.csr_request.CsrRequest.TheVariants.{Illegal, NextInterrupt, Swap, Plain}
 use Rattle.hart_board.specs.State.{Outside, State}
+use Rattle.hart_board.specs.Region.{region}
 use Rattle.hart_board.specs.Outside.{with_device, bytes_read, bytes_written, and_then, device_loaded, loaded_in, stored_in}
 use Rattle.hart_board.specs.Step.{step}
 use Rattle.hart_board.specs.Kinds.{HasLinesOf}
@@ -159,15 +160,21 @@ store_lines m o width value (Controller offset) outside e = controller_store m o
 store_lines m o width value (Devices offset) outside e = device_store m o (m.after_store o.device offset width value) outside e
 store_lines m o width value Nowhere outside e = cc
 
-abbrev Lined : Meanings → ClicState → Memory → Outside → Type 0
-Lined m before memory outside = HasLinesOf m before outside
+abbrev Lined : Meanings → ClicState → State → Type 0
+Lined m before t = HasLinesOf m before t.outside
 
 pub lines_stay : (m : Meanings) (s : State) → HasLinesOf m s.outside.clic (step m s).state.outside
 lines_stay m s = step_holds (Lined m s.outside.clic) m s (record {
   now = inl refl;
-  loaded = λ width r found e. load_lines m s.outside width r found e;
-  written = λ k width value. inl refl;
-  stored = λ width value r outside e. store_lines m s.outside width value r outside e;
-  system = λ ins. inl (system_lines ins s.registers s.csrs s.outside.clic);
-  entry = λ choice. inl (entry_lines s.csrs s.outside.clic s.memory choice s.pc);
+  does = λ ins bits length f d. record {
+    goes = λ rd value target e. inl refl;
+    loads = λ rd at width signed value e l. inl refl;
+    loads_outside = λ rd at width signed found e l. load_lines m s.outside width (region at) found l;
+    stores = λ at width value k e p. inl refl;
+    stores_outside = λ at width value outside e l. store_lines m s.outside width value (region at) outside l;
+    goes_on = λ e a. inl (system_lines ins s.registers s.csrs s.outside.clic);
+    jumps = λ target e a. inl (system_lines ins s.registers s.csrs s.outside.clic);
+  };
+  raises = λ trap e. inl refl;
+  enters = λ choice target t d e. inl (entry_lines s.csrs s.outside.clic s.memory choice s.pc);
 })

@@ -2,11 +2,10 @@
 // with a report.
 #![tactic(auto)]
 
+mod ahead;
 mod arrivals;
 mod board;
-mod contents;
 mod controller;
-mod dead_bytes;
 mod decoding;
 mod encoding;
 mod event;
@@ -15,23 +14,24 @@ pub mod laws;
 mod outside;
 mod region;
 mod report;
+mod rest;
 mod run_end;
 mod running;
-mod stepped;
 #[cfg(test)]
 mod tests;
-mod trace;
 mod trap;
 mod what;
 
+pub use ahead::Ahead;
+pub use arrivals::{take_due, take_events};
 pub use board::Board;
-pub use contents::{put_output, put_ram};
-pub use dead_bytes::{DeadBytes, NoDeadBytes};
+pub use decoding::decode;
+pub use encoding::Encoding;
 pub use event::Event;
 pub use events::Events;
+pub use hart_report::{DeadBytes, NoDeadBytes, Stepped, put_output, put_ram};
 pub use outside::FIRST_DEVICE_INPUT;
 pub use region::{CLIC_BASE, DEVICE_BASE};
 pub use run_end::RunEnd;
 pub use running::run;
-pub use stepped::Stepped;
 pub use what::What;

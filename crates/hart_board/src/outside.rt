@@ -3,6 +3,7 @@ ghost use Rattle.std.specs.Prelude.{◌≡◌, ℕ, IsTrue, ◌%◌, ◌*◌, �
 ghost use Rattle.std.specs.Option.{option_map};
 ghost use Rattle.std.specs.Bool.{OnFalse};
 ghost use Rattle.device_model.specs.Access.{IsWidth};
+ghost use Rattle.clic_regs.specs.ClicState.{input_count, IsClicState};
 ghost use Rattle.clic_regs.specs.LineChange.{line_changed};
 ghost use Rattle.clic_select.specs.Top.{top};
 ghost use Rattle.clic_trap.specs.Entry.{entered, GoesToEven};
@@ -10,11 +11,12 @@ ghost use Rattle.clic_trap.specs.System.{system, is_system, JumpsToEven};
 ghost use Rattle.clic_trap.specs.declared.entered.Entered.TheVariants.{VectorFault};
 ghost use Rattle.rv_encoding.specs.Fits.{can_be_spelled};
 ghost use Rattle.hart_board.specs.Region.{region};
+ghost use Rattle.hart_board.specs.Valid.{IsOutside};
 ghost use Rattle.hart_board.specs.Outside.{lines_set, with_device, reset_outside, device_loaded, loaded_in, stored_in};
 
 use crate::controller::{load_bytes, store_bytes};
 use crate::region::{Region, region_of};
-use clic_regs::INPUTS;
+use clic_regs::Shape;
 use clic_select::{Choice, Selector};
 use clic_trap::{Entered, SystemEnd, enter_interrupt, system};
 use csr_file::Csrs;
@@ -52,19 +54,20 @@ fn sample<D: Device>(select: &mut Selector, device: &D)
     requires { length (D.means.lines (D.state device.now)) ≤ MAX_LINES }
     ensures { select.new ≡ lines_set FIRST_DEVICE_INPUT (D.means.lines (D.state device.now)) select.old }
 {
+    let _ = select.shape();
     for k in 0..device.line_count() {
         select.set_line(FIRST_DEVICE_INPUT + k, device.line(k));
     }
 }
 
 impl<D: Device> Outside<D> {
-    /// The controller at reset, and this device with its lines sampled.
+    /// A controller of this shape at reset, and this device with its lines sampled.
     #[tactic(auto, unfolding(crate::specs::Outside::with_device))]
-    pub fn new(alloc: Global, device: D) -> Result<Outside<D>, WantOfMemory>
+    pub fn new(alloc: Global, device: D, shape: Shape) -> Result<Outside<D>, WantOfMemory>
         requires { length (D.means.lines (D.state device)) ≤ MAX_LINES }
-        ensures { IfOk result (λ o. o ≡ reset_outside D.means (D.state device)) }
+        ensures { IfOk result (λ o. o ≡ reset_outside D.means shape (D.state device)) }
     {
-        let mut select = Selector::new(alloc)?;
+        let mut select = Selector::new(alloc, shape)?;
         sample(&mut select, &device);
         Ok(Outside { select, device })
     }
@@ -81,6 +84,14 @@ impl<D: Device> Outside<D> {
         ensures { D.state result.now ≡ self.now.device }
     {
         &self.device
+    }
+
+    /// The controller and the device are in states of theirs.
+    pub fn in_range(&self)
+        ensures { IsOutside D.means self.now }
+    {
+        let _ = self.select.shape();
+        let _ = self.device.halt();
     }
 
     /// The code with which the device has halted the board.
@@ -159,7 +170,7 @@ impl<D: Device> Outside<D> {
 
     /// Sets the line of an input.
     pub fn set_line(&mut self, input: u32, high: bool)
-        requires { input < INPUTS }
+        requires { input < input_count self.old.clic }
         ensures { self.new ≡ record self.old { clic = line_changed self.old.clic input high } }
     {
         self.select.set_line(input, high);
@@ -175,7 +186,7 @@ impl<D: Device> Outside<D> {
     ) -> Entered
         requires top { top self.old.clic ≡ Some choice }
         requires even { pc % 2 ≡ 0 }
-        ensures entry { let entry = entered csrs.old self.old.clic banks.now choice pc in
+        ensures entry { let entry = entered csrs.old self.old.clic banks.now.present choice pc in
             (result ≡ entry.answer) × (csrs.new ≡ entry.csrs) × (self.new ≡ record self.old { clic = entry.clic }) }
         ensures even { GoesToEven result }
         ensures kept { (id : ℕ) → result ≡ VectorFault id → (csrs.new ≡ csrs.old) × (self.new ≡ self.old) }

@@ -1,0 +1,12 @@
+use Rattle.board_outside.proofs.Writing.{then_writes, stops_writing}
+use Rattle.hart_report.specs.Hart.{level_lines}
+use Rattle.hart_report.proofs.Texts.{stopped}
+use Rattle.hart_report.proofs.csrs.put_levels.Goals as goal
+
+pub returns-in_err-put_csr : goal.returns-in_err-put_csr
+unfolding level_lines
+returns-in_err-put_csr g c = stopped c.from_residual.result c.from_residual.ensures.0 (stops_writing _ c.in_err-put_csr.ensures)
+
+pub returns : goal.returns
+unfolding level_lines
+returns g c = then_writes c.in_ok-put_csr.ensures c.put_csr-2.ensures
