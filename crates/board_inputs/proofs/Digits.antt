@@ -10,7 +10,7 @@ use Rattle.std.proofs.lemmas.Int.Digits.{digits_value_more}
 use Rattle.std.proofs.lemmas.Str.Parse.{digits_value-take-le}
 use Rattle.std.proofs.lemmas.List.{take_more}
 use Rattle.board_inputs.specs.Numbers.{value_upto}
-use Rattle.board_inputs.proofs.Segments.{both_are}
+use Rattle.std.proofs.lemmas.Bool.{and_parts}
 
 -- the first i bytes are digits, and the value is theirs and not above the limit
 pub record HasRead (text : List ℕ) (i value most : ℕ) : Type 0 where
@@ -20,13 +20,13 @@ pub record HasRead (text : List ℕ) (i value most : ℕ) : Type 0 where
 
 digit_there : (text : List ℕ) (i : ℕ) → all_ascii_digits text ≡ true → i < length text → is_ascii_digit (get_or text i 0) ≡ true
 digit_there [] i e lt = absurd (omega arith)
-digit_there (c ∷ cs) zero e lt = (both_are (is_ascii_digit c) (all_ascii_digits cs) e).0
-digit_there (c ∷ cs) (suc i) e lt = digit_there cs i (both_are (is_ascii_digit c) (all_ascii_digits cs) e).1 (omega arith)
+digit_there (c ∷ cs) zero e lt = (and_parts (is_ascii_digit c) (all_ascii_digits cs) e).0
+digit_there (c ∷ cs) (suc i) e lt = digit_there cs i (and_parts (is_ascii_digit c) (all_ascii_digits cs) e).1 (omega arith)
 
 digits_push : (text : List ℕ) (c : ℕ) → all_ascii_digits text ≡ true → is_ascii_digit c ≡ true → all_ascii_digits (text ++ c ∷ []) ≡ true
 digits_push [] c e d = rw d refl
 digits_push (x ∷ xs) c e d =
-    let parts = both_are (is_ascii_digit x) (all_ascii_digits xs) e in
+    let parts = and_parts (is_ascii_digit x) (all_ascii_digits xs) e in
     rw parts.0 (digits_push xs c parts.1 d)
 
 worth : (c : ℕ) → is_ascii_digit c ≡ true → digit_value c ≡ c - 48

@@ -4,7 +4,7 @@ pub mod ImageAgain
 pub mod ImageFound
 pub mod Digits
 pub mod NumberText
-pub mod CutText
+pub mod Openings
 pub mod LineAgain
 pub mod LineTold
 pub mod LinePassed

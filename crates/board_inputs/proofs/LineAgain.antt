@@ -10,19 +10,19 @@ use Rattle.hart_board.specs.Event.{is_free_input}
 use Rattle.hart_board.specs.declared.event.Event.{Event}
 use Rattle.hart_board.specs.declared.what.What.{What}
 use Rattle.hart_board.specs.declared.what.What.TheVariants.{Line, Device}
-use Rattle.board_inputs.specs.Cuts.{cut}
+use Rattle.hart_words.specs.Cuts.{cut}
 use Rattle.board_inputs.specs.Spelling.{spaced, what_text, event_text, is_open, HasWhat, Spells}
 use Rattle.board_inputs.specs.Lines.{what_of, stimulus_named, line_named, event_of, meaning_of}
 use Rattle.board_inputs.specs.declared.line_meaning.LineMeaning.TheVariants.{Told}
-use Rattle.board_inputs.proofs.Segments.{both_are}
+use Rattle.std.proofs.lemmas.Bool.{and_parts}
 use Rattle.board_inputs.proofs.NumberText.{number_again, decimal_only, decimal_digits, not_hash}
-use Rattle.board_inputs.proofs.CutText.{cut_again, cut_none}
+use Rattle.hart_words.proofs.CutText.{cut_again, cut_none}
 
 cut_number : (n : ℕ) (rest : List ℕ) → n < 2 ^ 64 → cut 32 (spaced (decimal n) rest) ≡ (decimal n, Some rest)
 cut_number n rest small = cut_again 32 (decimal n) rest (decimal_only n small)
 
 below_bound : (inputs input : ℕ) → is_open inputs input ≡ true → input < inputs
-below_bound inputs input h = ltb-true _ _ (both_are (nat_lt input inputs) (is_free_input input) h).0
+below_bound inputs input h = ltb-true _ _ (and_parts (nat_lt input inputs) (is_free_input input) h).0
 
 what_again : (inputs : ℕ) (w : What) → inputs < 2 ^ 32 → HasWhat inputs w → what_of inputs (cut 32 (what_text w)) ≡ Some w
 unfolding stimulus_named line_named
@@ -48,7 +48,7 @@ event_again inputs e few at what =
 told_first : (inputs : ℕ) (ds rest : List ℕ) (e : Event) → all_ascii_digits ds ≡ true → 0 < length ds → event_of inputs (ds ++ rest) ≡ Some e → meaning_of inputs (ds ++ rest) ≡ Told e
 unfolding meaning_of
 told_first inputs [] rest e d some h = absurd (omega arith)
-told_first inputs (c ∷ cs) rest e d some h = rw (not_hash c (both_are (is_ascii_digit c) (all_ascii_digits cs) d).0, h) refl
+told_first inputs (c ∷ cs) rest e d some h = rw (not_hash c (and_parts (is_ascii_digit c) (all_ascii_digits cs) d).0, h) refl
 
 text_again : (inputs : ℕ) (e : Event) → inputs < 2 ^ 32 → e.at ≤ 1000000000 → HasWhat inputs e.what → meaning_of inputs (event_text e) ≡ Told e
 unfolding event_text

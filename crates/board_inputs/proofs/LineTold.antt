@@ -1,5 +1,5 @@
 -- A line that tells an event spells it.
-use Rattle.std.proofs.Common.{◌≡◌, ℕ, zero, suc, ◌<◌, ◌≤◌, ◌^◌, List, [], ◌∷◌, cond, codes, decimal, Bool, true, false, Option, Some, None, refl, sym, subst, ap, ◌∙◌, arith, lit<}
+use Rattle.std.proofs.Common.{◌≡◌, ℕ, zero, suc, ◌<◌, ◌≤◌, ◌^◌, List, cond, codes, decimal, Bool, true, false, Option, Some, None, refl, sym, subst, ap, ◌∙◌, arith, lit<}
 use Rattle.std.specs.Prelude.{option_map, option_and_then, nat_eq}
 use Rattle.std.specs.Str.{bytes_eq}
 use Rattle.std.proofs.lemmas.Slice.Eq.{bytes_eq-Decides}
@@ -10,14 +10,15 @@ use Rattle.device_model.specs.declared.stimulus.Stimulus.TheVariants.{Receive, P
 use Rattle.hart_board.specs.declared.event.Event.{Event}
 use Rattle.hart_board.specs.declared.what.What.{What}
 use Rattle.hart_board.specs.declared.what.What.TheVariants.{Line, Device}
-use Rattle.board_inputs.specs.Cuts.{cut}
+use Rattle.hart_words.specs.Cuts.{cut}
 use Rattle.board_inputs.specs.Numbers.{number_upto}
+use Rattle.board_inputs.specs.Opening.{is_passed}
 use Rattle.board_inputs.specs.Spelling.{spaced, stimulus_text, what_text, event_text, is_open, HasStimulus, HasWhat, Spells}
 use Rattle.board_inputs.specs.Lines.{told_or_bad, event_from, event_parts, line_from, tick_of, what_of, what_after, stimulus_named, line_named, event_of, meaning_of}
 use Rattle.board_inputs.specs.declared.line_meaning.LineMeaning.{LineMeaning}
 use Rattle.board_inputs.specs.declared.line_meaning.LineMeaning.TheVariants.{Passed, Told}
 use Rattle.board_inputs.proofs.NumberText.{number_took, some_on}
-use Rattle.board_inputs.proofs.CutText.{cut_took, cut_whole}
+use Rattle.hart_words.proofs.CutText.{cut_took, cut_whole}
 
 name_is : (name word : List ℕ) → bytes_eq name word ≡ true → name ≡ word
 name_is name word e = (bytes_eq-Decides name word).0 e
@@ -186,5 +187,4 @@ line_here inputs false line e few h = event_took inputs line e few (told_is (eve
 
 pub line_told : (inputs : ℕ) (line : List ℕ) (e : Event) → inputs < 2 ^ 32 → meaning_of inputs line ≡ Told e → Spells inputs line e
 unfolding meaning_of
-line_told inputs [] e few h = absurd cc
-line_told inputs (c ∷ cs) e few h = line_here inputs (nat_eq c 35) (c ∷ cs) e few h
+line_told inputs line e few h = line_here inputs (is_passed line) line e few h

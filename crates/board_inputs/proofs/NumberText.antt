@@ -10,7 +10,7 @@ use Rattle.std.proofs.lemmas.Bool.Decides.{nat_tests}
 use Rattle.std.proofs.lemmas.Str.Parse.{IsNumeralModel, numerals_by_value, tells_all_ascii_digits}
 use Rattle.std.proofs.lemmas.Fmt.{digits_decimal, digits_value-decimal, decimal-digits_value, decimal_nonempty, first_decimal, decimal_digit}
 use Rattle.board_inputs.specs.Numbers.{value_upto, number_upto, is_plain}
-use Rattle.board_inputs.proofs.Segments.{both_are}
+use Rattle.std.proofs.lemmas.Bool.{and_parts}
 
 own : IsNumeralModel (λ ds. all_ascii_digits ds ≡ true) (digits_value 10)
 own = numerals_by_value (λ ds. all_ascii_digits ds ≡ true) tells_all_ascii_digits
@@ -60,8 +60,8 @@ unfolding number_upto value_upto
 number_took most n text small e =
     let a = some_on (is_plain text) (cond (all_ascii_digits text && nat_le (digits_value 10 text) most) (Some (digits_value 10 text)) None) n e in
     let b = some_on (all_ascii_digits text && nat_le (digits_value 10 text) most) (Some (digits_value 10 text)) n a.1 in
-    let plain = both_are (nat_lt 0 (length text)) (nat_eq (length text) 1 || not (nat_eq (get_or text 0 0) 48)) a.0 in
-    let parts = both_are (all_ascii_digits text) (nat_le (digits_value 10 text) most) b.0 in
+    let plain = and_parts (nat_lt 0 (length text)) (nat_eq (length text) 1 || not (nat_eq (get_or text 0 0) 48)) a.0 in
+    let parts = and_parts (all_ascii_digits text) (nat_le (digits_value 10 text) most) b.0 in
     let value : digits_value 10 text ≡ n = some_is _ _ b.1 in
     let le : digits_value 10 text ≤ most = leb-true _ _ parts.1 in
     let spelled : decimal (digits_value 10 text) ≡ text = decimal-digits_value own text parts.0 (ltb-true _ _ plain.0) (leads_one text (nat_eq (length text) 1) refl plain.1) (omega arith) in
@@ -79,7 +79,7 @@ not_hash c e = let h : 48 ≤ c = grind (arith, nat_tests) in ne_eqb c 35 (λ is
 digits_only : (ds : List ℕ) → all_ascii_digits ds ≡ true → has_no 32 ds ≡ true
 digits_only [] e = refl
 digits_only (c ∷ cs) e =
-    let parts = both_are (is_ascii_digit c) (all_ascii_digits cs) e in
+    let parts = and_parts (is_ascii_digit c) (all_ascii_digits cs) e in
     rw (not_space c parts.0) (digits_only cs parts.1)
 
 -- no space stands in a number

@@ -2,17 +2,19 @@
 use Rattle.std.proofs.Common.{◌≡◌, ℕ, ◌+◌, ◌<◌, ◌≤◌, ◌^◌, List, [], ◌∷◌, ◌++◌, length, length-append, cond, Bool, true, false, Result, Ok, Err, refl, sym, ap, subst, ◌∙◌, arith, append_assoc, append-nil, inl, inr}
 use Rattle.std.specs.Prelude.{nat_lt, nat_le, IfOk, ◌⊎◌}
 use Rattle.std.proofs.lemmas.Bool.{le-ltb, ltb-false, lt-leb, leb-false}
-use Rattle.hart_board.specs.Event.{last_count}
+use Rattle.clic_regs.specs.Shape.{ClicShape}
+use Rattle.hart_board.specs.Event.{EventList, last_count}
 use Rattle.hart_board.specs.declared.event.Event.{Event}
 use Rattle.board_inputs.specs.InTurn.{◌>>=◌}
 use Rattle.board_inputs.specs.Spelling.{IsPassed, Spells}
-use Rattle.board_inputs.specs.ScenarioFile.{lines_of, Tell, AreInOrder, IsScenarioFile, most_events}
+use Rattle.board_inputs.specs.ScenarioFile.{file_opening, Tell, AreInOrder, IsScenarioFile, most_events}
 use Rattle.board_inputs.specs.Lines.{meaning_of}
-use Rattle.board_inputs.specs.ScenarioReading.{Fault, Gives, in_line, with_event, with_meaning, with_line, with_lines, scenario_of}
+use Rattle.board_inputs.specs.ScenarioReading.{Fault, Gives, in_shape, in_line, with_event, with_meaning, with_line, with_lines, scenario_of}
 use Rattle.board_inputs.specs.declared.line_meaning.LineMeaning.{LineMeaning}
 use Rattle.board_inputs.specs.declared.line_meaning.LineMeaning.TheVariants.{Passed, Bad, Told}
 use Rattle.board_inputs.specs.declared.scenario_why.ScenarioWhy.TheVariants.{OutOfOrder, TooMany}
 use Rattle.board_inputs.specs.declared.scenario_error.ScenarioError.{ScenarioError}
+use Rattle.board_inputs.proofs.Openings.{inputs_small}
 use Rattle.board_inputs.proofs.LineAgain.{line_again}
 use Rattle.board_inputs.proofs.LineTold.{line_told}
 use Rattle.board_inputs.proofs.LinePassed.{passed_is, passed_again}
@@ -50,9 +52,13 @@ lines_again inputs (line ∷ lines) n before es few h order room = elim h [
       rw (line_again inputs line e few t.3, added) (more ∙ ap (λ (l : List Event). Ok l) joined)
 ]
 
-pub scenario_again : (inputs : ℕ) (bytes : List ℕ) (es : List Event) → inputs < 2 ^ 32 → IsScenarioFile inputs bytes es → scenario_of inputs bytes ≡ Ok es
+pub scenario_again : (bytes : List ℕ) (es : EventList) → IsScenarioFile bytes es → scenario_of bytes ≡ Ok es
 unfolding scenario_of
-scenario_again inputs bytes es few h = lines_again inputs (lines_of bytes) 1 [] es few h.lines h.order h.few
+scenario_again bytes es h =
+    let o = file_opening bytes in
+    let tells : Tell o.shape.inputs o.lines es.list = subst (λ (s : ClicShape). Tell s.inputs o.lines es.list) h.shape h.lines in
+    let read : with_lines o.shape.inputs o.lines 1 [] ≡ Ok es.list = lines_again o.shape.inputs o.lines 1 [] es.list (inputs_small bytes) tells h.order h.few in
+    ap (in_shape o.shape) read ∙ ap (λ (s : ClicShape). in_shape s (Ok es.list)) (sym h.shape)
 
 -- ---- what is read the file tells
 abbrev done : List Event → Result (List Event) Fault
@@ -118,12 +124,25 @@ lines_took inputs (line ∷ lines) n before all few order room e =
           }
     ]
 
-scenario_took : (inputs : ℕ) (bytes : List ℕ) (es : List Event) → inputs < 2 ^ 32 → scenario_of inputs bytes ≡ Ok es → IsScenarioFile inputs bytes es
-unfolding scenario_of
-scenario_took inputs bytes es few e =
-    let t = lines_took inputs (lines_of bytes) 1 [] es few tt (omega arith) e in
-    record { lines = subst (Tell inputs (lines_of bytes)) (sym t.all_are) t.tell; order = t.order; few = t.few }
+shaped_ok : (s : ClicShape) (r : Result (List Event) Fault) (es : EventList) → in_shape s r ≡ Ok es → (r ≡ done es.list) × (es.shape ≡ s)
+shaped_ok s (Ok list) es e =
+    let same : record { shape = s; list = list } ≡ es = cc in
+    (ap (λ (x : EventList). done x.list) same, sym (ap (λ (x : EventList). x.shape) same))
+shaped_ok s (Err f) es e = absurd cc
 
-pub is_found : (inputs : ℕ) (bytes : List ℕ) (r : Result (List Event) ScenarioError) → inputs < 2 ^ 32 → Gives r (scenario_of inputs bytes) → IfOk r (λ es. IsScenarioFile inputs bytes es)
-is_found inputs bytes (Ok es) few given = scenario_took inputs bytes es few given
-is_found inputs bytes (Err e) few given = tt
+scenario_took : (bytes : List ℕ) (es : EventList) → scenario_of bytes ≡ Ok es → IsScenarioFile bytes es
+unfolding scenario_of
+scenario_took bytes es e =
+    let o = file_opening bytes in
+    let r = shaped_ok o.shape (with_lines o.shape.inputs o.lines 1 []) es e in
+    let t = lines_took o.shape.inputs o.lines 1 [] es.list (inputs_small bytes) tt (omega arith) r.0 in
+    record {
+      shape = r.1;
+      lines = subst (λ (s : ClicShape). Tell s.inputs o.lines es.list) (sym r.1) (subst (Tell o.shape.inputs o.lines) (sym t.all_are) t.tell);
+      order = t.order;
+      few = t.few;
+    }
+
+pub is_found : (bytes : List ℕ) (r : Result EventList ScenarioError) → Gives r (scenario_of bytes) → IfOk r (λ es. IsScenarioFile bytes es)
+is_found bytes (Ok es) given = scenario_took bytes es given
+is_found bytes (Err e) given = tt

@@ -2,20 +2,22 @@
 use Rattle.std.proofs.Common.{◌≡◌, ℕ, ◌+◌, ◌<◌, ◌≤◌, ◌^◌, List, [], ◌∷◌, ◌++◌, length, length-append, cond, Bool, true, false, Result, Ok, Err, refl, sym, ap, subst, ◌∙◌, arith, append_assoc, append-nil, inl, inr}
 use Rattle.std.specs.Prelude.{nat_lt, nat_le, IfErr}
 use Rattle.std.proofs.lemmas.Bool.{ltb-true, ltb-false, leb-true}
-use Rattle.hart_board.specs.Event.{last_count}
+use Rattle.clic_regs.specs.Shape.{ClicShape}
+use Rattle.hart_board.specs.Event.{EventList, last_count}
 use Rattle.hart_board.specs.declared.event.Event.{Event}
 use Rattle.board_inputs.specs.InTurn.{◌>>=◌}
 use Rattle.board_inputs.specs.Spelling.{Spells}
-use Rattle.board_inputs.specs.ScenarioFile.{lines_of, Tell, AreInOrder, most_events}
+use Rattle.board_inputs.specs.ScenarioFile.{file_opening, Tell, AreInOrder, most_events}
 use Rattle.board_inputs.specs.FirstWrong.{IsWrong, IsFirstWrong, RefusesFirst}
 use Rattle.board_inputs.specs.Lines.{meaning_of}
-use Rattle.board_inputs.specs.ScenarioReading.{Fault, Gives, in_line, with_meaning, with_line, with_lines, scenario_of}
+use Rattle.board_inputs.specs.ScenarioReading.{Fault, Gives, in_shape, in_line, with_meaning, with_line, with_lines, scenario_of}
 use Rattle.board_inputs.specs.declared.line_meaning.LineMeaning.{LineMeaning}
 use Rattle.board_inputs.specs.declared.line_meaning.LineMeaning.TheVariants.{Passed, Bad, Told}
 use Rattle.board_inputs.specs.declared.scenario_why.ScenarioWhy.{ScenarioWhy}
 use Rattle.board_inputs.specs.declared.scenario_why.ScenarioWhy.TheVariants.{BadLine, OutOfOrder, TooMany}
 use Rattle.board_inputs.specs.declared.scenario_error.ScenarioError.{ScenarioError}
 use Rattle.board_inputs.specs.declared.scenario_error.ScenarioError.TheVariants.{Memory, Refused}
+use Rattle.board_inputs.proofs.Openings.{inputs_small}
 use Rattle.board_inputs.proofs.LineAgain.{line_again}
 use Rattle.board_inputs.proofs.LineTold.{line_told}
 use Rattle.board_inputs.proofs.LinePassed.{passed_again}
@@ -137,16 +139,21 @@ lines_stop inputs [] n before f few order room h = absurd cc
 lines_stop inputs (line ∷ lines) n before f few order room h =
     stops_by inputs line lines n before f (with_line inputs line n before) few order room (λ next o r e. lines_stop inputs lines (n + 1) next f few o r e) refl h
 
-scenario_wrong : (inputs : ℕ) (bytes : List ℕ) (n : ℕ) (why : ScenarioWhy) → inputs < 2 ^ 32 → scenario_of inputs bytes ≡ in_line n why → IsFirstWrong inputs bytes n why
+shaped_err : (s : ClicShape) (r : Result (List Event) Fault) (f : Fault) → in_shape s r ≡ Err f → r ≡ failed f
+shaped_err s (Ok list) f e = absurd cc
+shaped_err s (Err g) f e = let same : g ≡ f = cc in ap failed same
+
+scenario_wrong : (bytes : List ℕ) (n : ℕ) (why : ScenarioWhy) → scenario_of bytes ≡ Err (record { line = n; why = why }) → IsFirstWrong bytes n why
 unfolding scenario_of
-scenario_wrong inputs bytes n why few h =
-    let s = lines_stop inputs (lines_of bytes) 1 [] (record { line = n; why = why }) few tt (omega arith) h in
+scenario_wrong bytes n why h =
+    let o = file_opening bytes in
+    let s = lines_stop o.shape.inputs o.lines 1 [] (record { line = n; why = why }) (inputs_small bytes) tt (omega arith) (shaped_err o.shape (with_lines o.shape.inputs o.lines 1 []) (record { line = n; why = why }) h) in
     record { front = s.front; line = s.line; behind = s.behind; lines = s.lines_are; number_is = s.number; before = s.told; told = s.tell; order = s.order; few = s.few; wrong = s.wrong }
 
-refusal_is_first : (inputs : ℕ) (bytes : List ℕ) (e : ScenarioError) → inputs < 2 ^ 32 → Gives (Err e) (scenario_of inputs bytes) → RefusesFirst inputs bytes e
-refusal_is_first inputs bytes Memory few given = tt
-refusal_is_first inputs bytes (Refused n why) few given = scenario_wrong inputs bytes n why few given
+refusal_is_first : (bytes : List ℕ) (e : ScenarioError) → Gives (Err e) (scenario_of bytes) → RefusesFirst bytes e
+refusal_is_first bytes Memory given = tt
+refusal_is_first bytes (Refused n why) given = scenario_wrong bytes n why given
 
-pub first_is_refused : (inputs : ℕ) (bytes : List ℕ) (r : Result (List Event) ScenarioError) → inputs < 2 ^ 32 → Gives r (scenario_of inputs bytes) → IfErr r (λ e. RefusesFirst inputs bytes e)
-first_is_refused inputs bytes (Ok es) few given = tt
-first_is_refused inputs bytes (Err e) few given = refusal_is_first inputs bytes e few given
+pub first_is_refused : (bytes : List ℕ) (r : Result EventList ScenarioError) → Gives r (scenario_of bytes) → IfErr r (λ e. RefusesFirst bytes e)
+first_is_refused bytes (Ok es) given = tt
+first_is_refused bytes (Err e) given = refusal_is_first bytes e given

@@ -2,8 +2,8 @@ pub mod InTurn
 pub mod ImageFile
 pub mod ImageReading
 pub mod Spelling
+pub mod Opening
 pub mod ScenarioFile
-pub mod Cuts
 pub mod Numbers
 pub mod Lines
 pub mod FirstWrong

@@ -1,13 +1,14 @@
 -- What a line of a scenario says, read from its front. Inputs have numbers below a bound.
-use Rattle.std.specs.Prelude.{ℕ, List, [], ◌∷◌, nat_eq, Option, Some, None, option_map, option_and_then, if◌then◌else◌, codes}
+use Rattle.std.specs.Prelude.{ℕ, List, nat_eq, Option, Some, None, option_map, option_and_then, if◌then◌else◌, codes}
 use Rattle.std.specs.Str.{bytes_eq}
 use Rattle.device_model.specs.declared.stimulus.Stimulus.{Stimulus}
 use Rattle.device_model.specs.declared.stimulus.Stimulus.TheVariants.{Receive, Pins, Tick}
 use Rattle.hart_board.specs.declared.event.Event.{Event}
 use Rattle.hart_board.specs.declared.what.What.{What}
 use Rattle.hart_board.specs.declared.what.What.TheVariants.{Line, Device}
-use Rattle.board_inputs.specs.Cuts.{cut}
+use Rattle.hart_words.specs.Cuts.{cut}
 use Rattle.board_inputs.specs.Numbers.{number_upto}
+use Rattle.board_inputs.specs.Opening.{is_passed}
 use Rattle.board_inputs.specs.Spelling.{is_open}
 use Rattle.board_inputs.specs.declared.line_meaning.LineMeaning.{LineMeaning}
 use Rattle.board_inputs.specs.declared.line_meaning.LineMeaning.TheVariants.{Passed, Bad, Told}
@@ -60,10 +61,8 @@ abbrev pub told_or_bad : Option Event → LineMeaning
 told_or_bad None = Bad
 told_or_bad (Some e) = Told e
 
--- an empty line and a comment are passed over
 unfoldable pub meaning_of : ℕ → List ℕ → LineMeaning
-meaning_of inputs [] = Passed
-meaning_of inputs (c ∷ cs) = if nat_eq c 35 then Passed else told_or_bad (event_of inputs (c ∷ cs))
+meaning_of inputs line = if is_passed line then Passed else told_or_bad (event_of inputs line)
 
 -- a fact of the event that a line tells
 abbrev pub IfTold : LineMeaning → (Event → Type 0) → Type 0

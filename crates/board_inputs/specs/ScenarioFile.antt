@@ -1,12 +1,11 @@
--- The file of a scenario: lines, each of which is passed over or spells an event.
-use Rattle.std.specs.Prelude.{◌≡◌, ℕ, ◌==◌, ◌≤◌, ◌⊎◌, List, [], ◌∷◌, length, ⊤}
-use Rattle.std.specs.List.{slice_split}
+-- The file of a scenario: lines, of which the first that isn't passed over may say the shape, and each other is passed over or
+-- spells an event.
+use Rattle.std.specs.Prelude.{◌≡◌, ℕ, ◌≤◌, ◌⊎◌, List, [], ◌∷◌, length, ⊤}
+use Rattle.hart_words.specs.Lines.{lines_of}
+use Rattle.hart_board.specs.Event.{EventList}
 use Rattle.hart_board.specs.declared.event.Event.{Event}
+use Rattle.board_inputs.specs.Opening.{Opening, opening_of}
 use Rattle.board_inputs.specs.Spelling.{IsPassed, Spells}
-
--- the lines are what stands before, between and behind the line feeds
-abbrev pub lines_of : List ℕ → List (List ℕ)
-lines_of bytes = slice_split (λ b. b == 10) bytes
 
 -- the lines tell these events, one after the other, where inputs have numbers below a bound
 abbrev pub Tell : ℕ → List (List ℕ) → List Event → Type 0
@@ -22,8 +21,13 @@ AreInOrder n (e ∷ es) = (n ≤ e.at) × AreInOrder e.at es
 abbrev pub most_events : ℕ
 most_events = 65_536
 
--- the bytes are a file of these events
-pub record IsScenarioFile (inputs : ℕ) (bytes : List ℕ) (es : List Event) : Type 0 where
-  pub lines : Tell inputs (lines_of bytes) es
-  pub order : AreInOrder 0 es
-  pub few : length es ≤ most_events
+-- a file's shape and its lines
+abbrev pub file_opening : List ℕ → Opening
+file_opening bytes = opening_of (lines_of bytes)
+
+-- the bytes are a file of these events, which are for boards of its shape
+pub record IsScenarioFile (bytes : List ℕ) (es : EventList) : Type 0 where
+  pub shape : es.shape ≡ (file_opening bytes).shape
+  pub lines : Tell es.shape.inputs (file_opening bytes).lines es.list
+  pub order : AreInOrder 0 es.list
+  pub few : length es.list ≤ most_events

@@ -1,9 +1,10 @@
 -- What reading a scenario line by line gives: its events, or the first thing that is wrong, with its line.
 use Rattle.std.specs.Prelude.{◌≡◌, ℕ, ◌+◌, List, [], ◌∷◌, ◌++◌, length, nat_lt, nat_le, if◌then◌else◌, Result, Ok, Err}
-use Rattle.hart_board.specs.Event.{last_count}
+use Rattle.clic_regs.specs.Shape.{ClicShape}
+use Rattle.hart_board.specs.Event.{EventList, last_count}
 use Rattle.hart_board.specs.declared.event.Event.{Event}
 use Rattle.board_inputs.specs.InTurn.{◌>>=◌}
-use Rattle.board_inputs.specs.ScenarioFile.{lines_of, most_events}
+use Rattle.board_inputs.specs.ScenarioFile.{file_opening, most_events}
 use Rattle.board_inputs.specs.Lines.{meaning_of}
 use Rattle.board_inputs.specs.declared.line_meaning.LineMeaning.{LineMeaning}
 use Rattle.board_inputs.specs.declared.line_meaning.LineMeaning.TheVariants.{Passed, Bad, Told}
@@ -40,18 +41,23 @@ unfoldable pub with_lines : ℕ → List (List ℕ) → ℕ → List Event → R
 with_lines inputs [] n before = Ok before
 with_lines inputs (line ∷ lines) n before = with_line inputs line n before >>= λ es. with_lines inputs lines (n + 1) es
 
-unfoldable pub scenario_of : ℕ → List ℕ → Result (List Event) Fault
-scenario_of inputs bytes = with_lines inputs (lines_of bytes) 1 []
+-- the events that were read are for boards of a shape
+abbrev pub in_shape : ClicShape → Result (List Event) Fault → Result EventList Fault
+in_shape s (Ok es) = Ok (record { shape = s; list = es })
+in_shape s (Err f) = Err f
+
+unfoldable pub scenario_of : List ℕ → Result EventList Fault
+scenario_of bytes = in_shape (file_opening bytes).shape (with_lines (file_opening bytes).shape.inputs (file_opening bytes).lines 1 [])
 
 -- ---- what a function answers
 
 -- it refused what reading refuses, or memory was wanting
-abbrev pub Fails : ScenarioError → Result (List Event) Fault → Type 0
+abbrev pub Fails : {A : Type 0} → ScenarioError → Result A Fault → Type 0
 Fails Memory read = Unit {0}
-Fails (Refused line why) read = read ≡ in_line line why
+Fails (Refused line why) read = read ≡ Err (record { line = line; why = why })
 
 -- it answered what reading gives, unless memory was wanting
-abbrev pub Gives : Result (List Event) ScenarioError → Result (List Event) Fault → Type 0
+abbrev pub Gives : Result EventList ScenarioError → Result EventList Fault → Type 0
 Gives (Ok x) read = read ≡ Ok x
 Gives (Err e) read = Fails e read
 

@@ -2,6 +2,7 @@
 use Rattle.std.specs.Prelude.{◌≡◌, ℕ, ◌<◌, ◌≤◌, List, [], ◌∷◌, ◌++◌, true, Bool, ◌&&◌, nat_lt, codes, decimal, if◌then◌else◌, ⊤}
 use Rattle.device_model.specs.declared.stimulus.Stimulus.{Stimulus}
 use Rattle.device_model.specs.declared.stimulus.Stimulus.TheVariants.{Receive, Pins, Tick}
+use Rattle.clic_regs.specs.Shape.{ClicShape, IsShape}
 use Rattle.hart_board.specs.Event.{is_free_input}
 use Rattle.hart_board.specs.declared.event.Event.{Event}
 use Rattle.hart_board.specs.declared.what.What.{What}
@@ -11,6 +12,11 @@ use Rattle.hart_board.specs.declared.what.What.TheVariants.{Line, Device}
 abbrev pub IsPassed : List ℕ → Type 0
 IsPassed [] = ⊤
 IsPassed (c ∷ cs) = c ≡ 35
+
+-- each of the lines is
+abbrev pub ArePassed : List (List ℕ) → Type 0
+ArePassed [] = ⊤
+ArePassed (line ∷ lines) = IsPassed line × ArePassed lines
 
 -- a text, a space and what follows
 abbrev pub spaced : List ℕ → List ℕ → List ℕ
@@ -28,6 +34,15 @@ what_text (Device stimulus) = stimulus_text stimulus
 -- the count, and what comes then
 unfoldable pub event_text : Event → List ℕ
 event_text e = spaced (decimal e.at) (what_text e.what)
+
+-- a line that says the shape of the controller
+abbrev pub shape_text : ClicShape → List ℕ
+shape_text s = spaced (codes "clic") (spaced (decimal s.inputs) (decimal s.bits))
+
+-- the line says the shape
+pub record SaysShape (line : List ℕ) (s : ClicShape) : Type 0 where
+  pub shape : IsShape s
+  pub text : line ≡ shape_text s
 
 -- the input is below the bound, and no device's
 abbrev pub is_open : ℕ → ℕ → Bool

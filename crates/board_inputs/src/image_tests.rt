@@ -1,5 +1,6 @@
 use super::*;
 use board_devices::shipped;
+use clic_regs::Shape;
 use hart_board::Board;
 use hart_memory::{Image, place_of};
 use std::alloc::Global;
@@ -177,7 +178,7 @@ fn written_and_read_again(rt: HostRuntime) -> Result<(), Fail> {
 
 #[test]
 fn loaded_into_a_board(rt: HostRuntime) -> Result<(), Fail> {
-    let mut board = Board::new(rt.alloc(), shipped(rt.alloc())?)?;
+    let mut board = Board::new(rt.alloc(), shipped(rt.alloc())?, Shape::plain())?;
     let image = small_image(&rt, rt.alloc())?;
     load_image(&image, &mut board);
     let bytes = [

@@ -1,7 +1,6 @@
 // What comes from outside: image files and scenario files.
 #![tactic(auto)]
 
-mod cuts;
 mod image_error;
 mod image_loading;
 mod image_reading;
@@ -13,6 +12,7 @@ pub mod laws;
 mod line_meaning;
 mod lines;
 mod numbers;
+mod opening;
 mod scenario_error;
 mod scenario_reading;
 #[cfg(test)]

@@ -1,17 +1,17 @@
 // What a line of a scenario says.
 ghost use Rattle.std.specs.Prelude.{◌≡◌, ◌≢◌, ◌<◌, ◌≤◌, length, true, IsTrue, IfSome};
-ghost use Rattle.clic_regs.specs.declared.TheConstants.{INPUTS};
 ghost use Rattle.hart_board.specs.Event.{is_free};
-ghost use Rattle.board_inputs.specs.Cuts.{cut};
+ghost use Rattle.hart_words.specs.Cuts.{cut};
+ghost use Rattle.board_inputs.specs.Opening.{is_passed};
 ghost use Rattle.board_inputs.specs.Spelling.{is_open};
 ghost use Rattle.board_inputs.specs.Lines.{IfTold, stimulus_named, line_named, what_of, event_of, meaning_of};
 ghost use Rattle.board_inputs.specs.declared.line_meaning.LineMeaning.TheVariants.{Passed};
 
-use crate::cuts::cut_at;
 use crate::line_meaning::LineMeaning;
 use crate::numbers::number;
 use device_model::{MAX_LINES, Stimulus};
 use hart_board::{Event, FIRST_DEVICE_INPUT, What};
+use hart_words::cut_at;
 
 /// The greatest count.
 const MAX_COUNT: u32 = 1_000_000_000;
@@ -59,9 +59,8 @@ fn is_open(input: u32, inputs: u32) -> bool
 // A change of an input's line, by its name and its two numbers.
 #[tactic(auto, unfolding(crate::specs::Lines::line_named))]
 fn line_change(name: &[u8], first: &[u8], second: &[u8], inputs: u32) -> Option<What>
-    requires { inputs ≤ INPUTS }
     ensures what { result ≡ line_named inputs name.now first.now second.now }
-    ensures free { IfSome result (λ w. IsTrue (is_free w)) }
+    ensures free { IfSome result (λ w. IsTrue (is_free inputs w)) }
 {
     if name != b"line".as_slice() {
         return None;
@@ -83,9 +82,8 @@ fn line_change(name: &[u8], first: &[u8], second: &[u8], inputs: u32) -> Option<
 
 // What follows an event's count.
 fn what_in(text: &[u8], inputs: u32) -> Option<What>
-    requires { inputs ≤ INPUTS }
     ensures what { result ≡ what_of inputs (cut 32 text.now) }
-    ensures free { IfSome result (λ w. IsTrue (is_free w)) }
+    ensures free { IfSome result (λ w. IsTrue (is_free inputs w)) }
 {
     match cut_at(text, b' ') {
         (_, None) => None,
@@ -101,9 +99,8 @@ fn what_in(text: &[u8], inputs: u32) -> Option<What>
 
 #[tactic(auto, unfolding(crate::specs::Lines::event_of))]
 fn event_in(line: &[u8], inputs: u32) -> Option<Event>
-    requires { inputs ≤ INPUTS }
     ensures event { result ≡ event_of inputs line.now }
-    ensures free { IfSome result (λ e. IsTrue (is_free e.what)) }
+    ensures free { IfSome result (λ e. IsTrue (is_free inputs e.what)) }
 {
     match cut_at(line, b' ') {
         (_, None) => None,
@@ -117,20 +114,28 @@ fn event_in(line: &[u8], inputs: u32) -> Option<Event>
     }
 }
 
+// An empty line and a comment are passed over.
+pub(crate) fn is_passed(line: &[u8]) -> bool
+    ensures { result ≡ is_passed line.now }
+{
+    match line {
+        [] => true,
+        [first, ..] => *first == b'#',
+    }
+}
+
 // What a line says, where inputs have numbers below a bound.
 #[tactic(auto, unfolding(crate::specs::Lines::meaning_of))]
 pub(crate) fn line_meaning(line: &[u8], inputs: u32) -> LineMeaning
-    requires { inputs ≤ INPUTS }
     ensures meaning { result ≡ meaning_of inputs line.now }
-    ensures free { IfTold result (λ e. IsTrue (is_free e.what)) }
+    ensures free { IfTold result (λ e. IsTrue (is_free inputs e.what)) }
     ensures some { result ≢ Passed → 0 < length line.now }
 {
-    match line {
-        [] => LineMeaning::Passed,
-        [b'#', ..] => LineMeaning::Passed,
-        _ => match event_in(line, inputs) {
-            Some(event) => LineMeaning::Told(event),
-            None => LineMeaning::Bad,
-        },
+    if is_passed(line) {
+        return LineMeaning::Passed;
+    }
+    match event_in(line, inputs) {
+        Some(event) => LineMeaning::Told(event),
+        None => LineMeaning::Bad,
     }
 }

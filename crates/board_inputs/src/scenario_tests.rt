@@ -56,7 +56,9 @@ fn blanks_that_are_bad(rt: HostRuntime) {
         b" # start".as_slice(),
         b"0 Rx 1".as_slice(),
         b"0 rx +1".as_slice(),
-        b"clic 64 8".as_slice(),
+        b"Clic 64 8".as_slice(),
+        b"clic 64 8 ".as_slice(),
+        b"clic  64 8".as_slice(),
         b"rx 1".as_slice(),
     ];
     for bytes in cases {
@@ -65,6 +67,51 @@ fn blanks_that_are_bad(rt: HostRuntime) {
             refused(1, ScenarioWhy::BadLine)
         );
     }
+}
+
+#[test]
+fn shapes_that_are_bad(rt: HostRuntime) {
+    let cases = [
+        (b"clic 23 8".as_slice(), 1),
+        (b"clic 1025 8".as_slice(), 1),
+        (b"clic 64 9".as_slice(), 1),
+        (b"clic 064 8".as_slice(), 1),
+        (b"clic 64".as_slice(), 1),
+        (b"# small\n\nclic 24 8\nclic 24 8".as_slice(), 4),
+        (b"0 rx 1\nclic 24 8".as_slice(), 2),
+        (b"clic 24 8\n0 line 24 1".as_slice(), 2),
+        (b"clic 1024 0\n0 line 16 1".as_slice(), 2),
+    ];
+    for (bytes, line) in cases {
+        assert_eq!(rt;
+            answer(&rt, rt.alloc(), bytes),
+            refused(line, ScenarioWhy::BadLine)
+        );
+    }
+}
+
+// A file, the inputs and the bits of its shape, and how many events it tells.
+#[test]
+fn shapes_that_are_said(rt: HostRuntime) -> Result<(), Fail> {
+    let cases = [
+        (b"".as_slice(), 64, 8, 0),
+        (b"0 line 63 1".as_slice(), 64, 8, 1),
+        (b"clic 64 2\n0 line 63 1\n".as_slice(), 64, 2, 1),
+        (
+            b"# all\n\nclic 1024 0\n0 line 1023 1\n0 line 0 1".as_slice(),
+            1024,
+            0,
+            2,
+        ),
+        (b"clic 24 8".as_slice(), 24, 8, 0),
+    ];
+    for (bytes, inputs, bits, count) in cases {
+        let events = read(&rt, rt.alloc(), bytes)?;
+        let shape = events.shape();
+        assert_eq!(rt; (shape.inputs(), shape.bits()), (inputs, bits));
+        assert_eq!(rt; events.len(), count);
+    }
+    Ok(())
 }
 
 #[test]
