@@ -1,0 +1,11 @@
+pub mod Digits
+pub mod Places
+pub mod Onward
+pub mod ByteKinds
+pub mod Forward
+pub mod Backward
+pub mod Reader
+pub mod Rows
+pub mod Foretelling
+pub mod Written
+pub mod Soundness

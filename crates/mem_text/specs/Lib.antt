@@ -1,0 +1,7 @@
+pub mod Bytes
+pub mod Items
+pub mod Moves
+pub mod Laying
+pub mod Reading
+pub mod Standing
+pub mod Writing

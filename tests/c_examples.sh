@@ -1,0 +1,51 @@
+#!/bin/sh
+# Builds the programs of examples/c with the compiler of the distribution, runs them, and compares what they send and,
+# of the one with handlers, its services. It runs after the gate, and is skipped where a tool or a command is missing.
+top=$(cd "$(dirname "$0")/.." && pwd)
+skip() {
+    echo "C examples: skipped, since $1"
+    exit 0
+}
+fail() {
+    echo "C examples: $1" >&2
+    exit 1
+}
+command -v rt >/dev/null || skip "there is no rt"
+command -v riscv64-unknown-elf-gcc >/dev/null || skip "there is no riscv64-unknown-elf-gcc"
+command -v riscv64-unknown-elf-objcopy >/dev/null || skip "there is no riscv64-unknown-elf-objcopy"
+cd "$top" || exit 1
+usage=$(./clic_tool)
+case $usage in
+*unmem*) ;;
+*) skip "clic_tool has no unmem" ;;
+esac
+folder=$(mktemp -d)
+trap 'rm -rf "$folder"' EXIT
+
+# The image of a program and its sources.
+builds() {
+    name=$1
+    shift
+    examples/c/build.sh "$folder/$name" "$@" || fail "$name isn't built"
+    ./clic_tool unmem "$folder/$name.mem" 0 >"$folder/$name.img" || fail "$name.mem isn't read"
+}
+
+# What a program's report says of its services, its end and its output, and the words of the command.
+sends() {
+    name=$1
+    shift
+    ./clic_tool "$@" >"$folder/report" || fail "$*: status $?"
+    grep '^s [0-9]\|^end \|^out \|^o ' "$folder/report" | cmp - "examples/c/$name.sent" || fail "$*: another text"
+}
+
+builds hello examples/c/hello.c
+sends hello run "$folder/hello.img" examples/empty.txt 10000
+case $usage in
+*chain*)
+    builds serial examples/c/serial.c examples/c/serial_handlers.S
+    for dispatcher in looping returning; do
+        sends serial chain "$folder/serial.img" examples/c/serial.txt "$dispatcher" 100000
+    done
+    ;;
+esac
+echo "C examples: as they should be"
