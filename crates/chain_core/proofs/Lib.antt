@@ -1,0 +1,15 @@
+pub mod Registers
+pub mod Marking
+pub mod OneOfThree
+pub mod Leading
+pub mod Alone
+pub mod Nested
+pub mod Costs
+pub mod Ends
+pub mod Starts
+pub mod Loops
+pub mod Turned
+pub mod Listing
+pub mod Permitted
+pub mod Depth
+pub mod SlotBytes

@@ -1,0 +1,42 @@
+// The registers that a handler has to bring back.
+ghost use Rattle.std.specs.Prelude.{◌≡◌, ◌<◌, ◌||◌, ◌==◌, reverse};
+ghost use Rattle.hart_words.specs.Registers.{register};
+ghost use Rattle.chain_core.specs.Tests.{is_free, are_kept, is_lost};
+
+use crate::mark::Mark;
+use crate::slot::BACK;
+
+// Whether a register is one that a handler may change, or is as it was.
+fn is_same(kept: &[u32; 32], registers: &[u32; 32], r: usize) -> bool
+    requires { r < 32 }
+    ensures { result ≡ (is_free r || register registers.now r == register kept.now r) }
+{
+    r == 1 || r == 10 || r == 11 || registers[r] == kept[r]
+}
+
+/// Whether each register that a handler has to bring back is as it was.
+pub fn keeps(kept: &[u32; 32], registers: &[u32; 32]) -> bool
+    ensures { result ≡ are_kept kept.now registers.now 32 }
+{
+    for r in 0..32usize {
+        if !is_same(kept, registers, r) {
+            return false;
+        }
+    }
+    true
+}
+
+/// Whether the innermost handler, which stands last, returns, and a register is not as it was when the
+/// handler began.
+#[tactic(auto, using(crate::proofs::Turned::lost_none, crate::proofs::Turned::lost_elsewhere, crate::proofs::Turned::lost_here))]
+pub fn is_lost(marks: &[Mark], pc: u32, registers: &[u32; 32]) -> bool
+    ensures { result ≡ is_lost (reverse marks.now) pc registers.now }
+{
+    if marks.is_empty() {
+        return false;
+    }
+    if pc != BACK {
+        return false;
+    }
+    !keeps(&marks[marks.len() - 1].kept, registers)
+}

@@ -1,0 +1,13 @@
+// The slot, and the frames that a dispatcher makes.
+
+/// The slot's first address, where interrupts go.
+pub const BASE: u32 = 0x40;
+
+/// The address past the slot's last.
+pub const SLOT_END: u32 = 0xC0;
+
+/// Where a handler returns.
+pub const BACK: u32 = 0x74;
+
+/// The bytes of a frame.
+pub const FRAME_SIZE: u32 = 32;
