@@ -18,7 +18,7 @@ use Rattle.asm_forms.proofs.Items.{drop_at}
 
 pub chosen_on : (table : List Form) (i : ℕ) (why : AsmWhy) (t : List ℕ) (ws : List Word) (d : Form) → i < length table
     → chosen (form_rows (drop i table)) why t ws
-    ≡ cond (is_same_text (get_or table i d).0.now t) (task_or (read_form (row_of (get_or table i d)) ws) (chosen (form_rows (drop (i + 1) table)) BadOperands t ws)) (chosen (form_rows (drop (i + 1) table)) why t ws)
+    ≡ cond (is_same_text (get_or table i d).name.now t) (task_or (read_form (row_of (get_or table i d)) ws) (chosen (form_rows (drop (i + 1) table)) BadOperands t ws)) (chosen (form_rows (drop (i + 1) table)) why t ws)
 chosen_on table i why t ws d h =
     let one : suc i ≡ i + 1 = omega arith in
     ap (λ x. chosen (form_rows x) why t ws) (drop-cons table i d h ∙ ap (λ k. get_or table i d ∷ drop k table) one)
@@ -36,11 +36,6 @@ pub label_at : (line : List ℕ) (ts : List Token) (t u : Token) → slice_get t
     → label_of (map (word_at line) ts) ≡ cond (is_marked Colon (word_at line u)) (label_in (word_at line t)) None
 label_at line ts t u e f =
     ap (λ x. label_of (map (word_at line) x)) (drop_at ts 0 t e ∙ ap (λ x. t ∷ x) (drop_at ts 1 u f))
-
-pub no_label : (ws : List Word) → length ws < 2 → label_of ws ≡ None
-no_label [] h = refl
-no_label (w ∷ []) h = refl
-no_label (w ∷ v ∷ ws) h = absurd (omega arith)
 
 pub statement_on : (line : List ℕ) (ts : List Token) (at : ℕ) (t : Token) → slice_get ts at ≡ Some t
     → statement_of (map (word_at line) (drop at ts)) ≡ statement_of (word_at line t ∷ map (word_at line) (drop (at + 1) ts))

@@ -13,7 +13,7 @@ use Rattle.asm_forms.specs.Statements.{Task, Fits, task_by, read_form, task_or, 
 use Rattle.asm_forms.specs.declared.kind.Kind.{Kind}
 use Rattle.asm_forms.specs.declared.kind.Kind.TheVariants.{Org, Entry, Byte, Half, Zero, Short, Pair}
 use Rattle.asm_forms.specs.declared.extent.Extent.{Extent}
-use Rattle.asm_forms.specs.declared.extent.Extent.TheVariants.{Jumps, Marks, Takes}
+use Rattle.asm_forms.specs.declared.extent.Extent.TheVariants.{Org as OrgExtent, Entry as EntryExtent, Takes}
 use Rattle.asm_forms.specs.declared.asm_why.AsmWhy.{AsmWhy}
 use Rattle.asm_forms.specs.declared.asm_why.AsmWhy.TheVariants.{UnknownMnemonic, BadOperands}
 use Rattle.asm_forms.proofs.Zeros.{length_zeros}
@@ -72,8 +72,8 @@ reading_fits line r k e s = reading_by_fits (lexed line).fault _ r k e s
 -- ---- how many bytes
 
 abbrev pub Positive : Extent → Type 0
-Positive (Jumps p) = Unit {0}
-Positive Marks = Unit {0}
+Positive (OrgExtent p) = Unit {0}
+Positive EntryExtent = Unit {0}
 Positive (Takes n) = 0 < n
 
 at_least_one : (n : ℕ) → (nat_le 1 n && nat_le n 65536) ≡ true → 0 < n

@@ -1,5 +1,5 @@
 -- Items and words, one by one.
-use Rattle.std.proofs.Common.{◌≡◌, ℕ, zero, suc, ◌+◌, ◌-◌, ◌<◌, ◌≤◌, List, [], ◌∷◌, drop, take, get_or, map, subst, length, Some, None, Bool, true, false, refl, sym, ap, ◌∙◌, arith, drop-cons, length-drop}
+use Rattle.std.proofs.Common.{◌≡◌, ℕ, zero, suc, ◌+◌, ◌-◌, ◌<◌, ◌≤◌, List, [], ◌∷◌, drop, take, get_or, map, subst, length, Some, None, option_and_then, Bool, true, false, refl, sym, ap, ◌∙◌, arith, drop-cons, length-drop}
 use Rattle.std.specs.Prelude.{◌==◌}
 use Rattle.std.proofs.lemmas.Bool.Decides.{nat_tests}
 use Rattle.std.proofs.lemmas.List.Elements.{All-get_or}
@@ -10,7 +10,7 @@ use Rattle.std.specs.Option.{unwrap_or}
 use Rattle.asm_text.specs.Words.{Word, word_at}
 use Rattle.asm_text.specs.declared.token.Token.{Token}
 use Rattle.asm_forms.specs.Operands.{Operands}
-use Rattle.asm_forms.specs.Fields.{read_items, read_item, option_then}
+use Rattle.asm_forms.specs.Fields.{read_items, read_item}
 use Rattle.asm_forms.specs.declared.item.Item.{Item}
 
 -- a list from one of its places on
@@ -34,7 +34,7 @@ none_more (i ∷ is) [] o h e = refl
 none_more (i ∷ is) (w ∷ ws) o h e = absurd (omega arith)
 
 pub read_on : (is : List Item) (d : Item) (line : List ℕ) (ts : List Token) (at : ℕ) (t : Token) (o : Operands) → 0 < length is → slice_get ts at ≡ Some t
-    → read_items is (map (word_at line) (drop at ts)) o ≡ option_then (read_item (get_or is 0 d) (word_at line t) o) (read_items (drop 1 is) (map (word_at line) (drop (at + 1) ts)))
+    → read_items is (map (word_at line) (drop at ts)) o ≡ option_and_then (read_items (drop 1 is) (map (word_at line) (drop (at + 1) ts))) (read_item (get_or is 0 d) (word_at line t) o)
 read_on [] d line ts at t o h e = absurd (omega arith)
 read_on (i ∷ is) d line ts at t o h e = ap (λ xs. read_items (i ∷ is) (map (word_at line) xs) o) (drop_at ts at t e)
 

@@ -1,9 +1,9 @@
 -- How each operand is read.
-use Rattle.std.specs.Prelude.{ℕ, ◌-◌, ◌*◌, ◌^◌, Bool, false, ◌||◌, ◌==◌, nat_lt, cond, List, [], ◌∷◌, Option, Some, None, ℤ, pos, negsuc, codes}
+use Rattle.std.specs.Prelude.{ℕ, ◌-◌, ◌*◌, ◌^◌, Bool, true, false, ◌||◌, ◌==◌, nat_lt, cond, List, [], ◌∷◌, Option, Some, None, option_map, option_and_then, ℤ, pos, negsuc, codes}
 use Rattle.asm_text.specs.Names.{Names, register_of, csr_of, number_in}
 use Rattle.asm_text.specs.Words.{Word, NameWord, NumberWord, MarkWord}
 use Rattle.asm_text.specs.declared.token_kind.TokenKind.{TokenKind}
-use Rattle.asm_text.specs.declared.token_kind.TokenKind.TheVariants.{Name as NameKind, Number as NumberKind, Comma, Colon, Open, Close}
+use Rattle.asm_text.specs.declared.token_kind.TokenKind.TheVariants.{Comma, Colon, Open, Close}
 use Rattle.asm_forms.specs.Operands.{Operands, Number, Given, Absolute, Near, NearLabel}
 use Rattle.asm_forms.specs.declared.field.Field.{Field}
 use Rattle.asm_forms.specs.declared.field.Field.TheVariants.{Rd, Rs1, Rs2, Csr, Source, Pred, Succ, Signed, Below, Digits, Upper, Amount, Word as AnyWord, Label, Address, Target}
@@ -74,24 +74,19 @@ label_in (MarkWord k) = None
 -- ---- numbers that may wait for a label
 
 abbrev pub as_given : Option ℕ → Option Number
-as_given None = None
-as_given (Some n) = Some (Given n)
+as_given value = option_map Given value
 
 abbrev pub as_upper : Option ℕ → Option Number
-as_upper None = None
-as_upper (Some n) = Some (Given (n * 4096))
+as_upper value = option_map (λ n. Given (n * 4096)) value
 
 abbrev pub as_near : Option ℕ → Option Number
-as_near None = None
-as_near (Some n) = Some (Near n)
+as_near value = option_map Near value
 
 abbrev pub as_absolute : Option (List ℕ) → Option Number
-as_absolute None = None
-as_absolute (Some t) = Some (Absolute t)
+as_absolute label = option_map Absolute label
 
 abbrev pub as_near_label : Option (List ℕ) → Option Number
-as_near_label None = None
-as_near_label (Some t) = Some (NearLabel t)
+as_near_label label = option_map NearLabel label
 
 abbrev pub address_in : Word → Option Number
 address_in (NameWord t) = as_absolute (label_in (NameWord t))
@@ -106,28 +101,22 @@ target_in (MarkWord k) = None
 -- ---- each into its place
 
 abbrev pub with_rd : Option ℕ → Operands → Option Operands
-with_rd None o = None
-with_rd (Some n) o = Some (record o { rd = n })
+with_rd value o = option_map (λ n. record o { rd = n }) value
 
 abbrev pub with_rs1 : Option ℕ → Operands → Option Operands
-with_rs1 None o = None
-with_rs1 (Some n) o = Some (record o { rs1 = n })
+with_rs1 value o = option_map (λ n. record o { rs1 = n }) value
 
 abbrev pub with_rs2 : Option ℕ → Operands → Option Operands
-with_rs2 None o = None
-with_rs2 (Some n) o = Some (record o { rs2 = n })
+with_rs2 value o = option_map (λ n. record o { rs2 = n }) value
 
 abbrev pub with_csr : Option ℕ → Operands → Option Operands
-with_csr None o = None
-with_csr (Some n) o = Some (record o { csr = n })
+with_csr value o = option_map (λ n. record o { csr = n }) value
 
 abbrev pub with_amount : Option ℕ → Operands → Option Operands
-with_amount None o = None
-with_amount (Some n) o = Some (record o { amount = n })
+with_amount value o = option_map (λ n. record o { amount = n }) value
 
 abbrev pub with_number : Option Number → Operands → Option Operands
-with_number None o = None
-with_number (Some n) o = Some (record o { number = n })
+with_number value o = option_map (λ n. record o { number = n }) value
 
 -- the operands with the one that the word is
 unfoldable pub read_field : Field → Word → Operands → Option Operands
@@ -150,30 +139,26 @@ read_field Target w o = with_number (target_in w) o
 
 -- ---- items
 
-abbrev pub mark_code : TokenKind → ℕ
-mark_code NameKind = 0
-mark_code NumberKind = 1
-mark_code Comma = 2
-mark_code Colon = 3
-mark_code Open = 4
-mark_code Close = 5
+-- the same mark
+abbrev pub is_same_mark : TokenKind → TokenKind → Bool
+is_same_mark Comma Comma = true
+is_same_mark Colon Colon = true
+is_same_mark Open Open = true
+is_same_mark Close Close = true
+is_same_mark _ _ = false
 
 abbrev pub is_marked : TokenKind → Word → Bool
 is_marked k (NameWord t) = false
 is_marked k (NumberWord z) = false
-is_marked k (MarkWord j) = mark_code k == mark_code j
+is_marked k (MarkWord j) = is_same_mark k j
 
 abbrev pub read_item : Item → Word → Operands → Option Operands
 read_item (Operand f) w o = read_field f w o
 read_item (Mark k) w o = cond (is_marked k w) (Some o) None
-
-abbrev pub option_then : {A B : Type 0} → Option A → (A → Option B) → Option B
-option_then None f = None
-option_then (Some x) f = f x
 
 -- the operands that the words are, one word for each item
 abbrev pub read_items : List Item → List Word → Operands → Option Operands
 read_items [] [] o = Some o
 read_items [] (w ∷ ws) o = None
 read_items (i ∷ is) [] o = None
-read_items (i ∷ is) (w ∷ ws) o = option_then (read_item i w o) (read_items is ws)
+read_items (i ∷ is) (w ∷ ws) o = option_and_then (read_items is ws) (read_item i w o)

@@ -14,9 +14,9 @@ use Rattle.asm_forms.specs.Operands.{Operands, Number, Given, Absolute, Near, Ne
 use Rattle.asm_forms.specs.declared.kind.Kind.{Kind}
 use Rattle.asm_forms.specs.declared.kind.Kind.TheVariants.{Org, Entry, Byte, Half, Word, Zero, Lui, Auipc, Jal, Jalr, Branch, Load, Store, Imm, Reg, Fence, Csr, Fixed, Short, Pair}
 use Rattle.asm_forms.specs.declared.operation.Operation.{Operation}
-use Rattle.asm_forms.specs.declared.operation.Operation.TheVariants.{Moves, Enters, PutsByte, PutsHalf, PutsWord, PutsZeros, Long, Twice, Compressed}
+use Rattle.asm_forms.specs.declared.operation.Operation.TheVariants.{Org as OrgOperation, Entry as EntryOperation, PutsByte, PutsHalf, PutsWord, PutsZeros, Long, Twice, Compressed}
 use Rattle.asm_forms.specs.declared.extent.Extent.{Extent}
-use Rattle.asm_forms.specs.declared.extent.Extent.TheVariants.{Jumps, Marks, Takes}
+use Rattle.asm_forms.specs.declared.extent.Extent.TheVariants.{Org as OrgExtent, Entry as EntryExtent, Takes}
 
 -- the upper 20 bits of a number, raised where the lower 12 count as negative
 abbrev pub upper_part : ℕ → ℕ
@@ -28,8 +28,8 @@ lower_part n = sign_extended (n % 4096) 12
 
 -- what a line does, with its operands and its number
 unfoldable pub made : Kind → Operands → ℕ → Operation
-made Org o n = Moves o.amount
-made Entry o n = Enters n
+made Org o n = OrgOperation o.amount
+made Entry o n = EntryOperation n
 made Byte o n = PutsByte (n % 2 ^ 8)
 made Half o n = PutsHalf (n % 2 ^ 16)
 made Word o n = PutsWord n
@@ -51,8 +51,8 @@ made Pair o n = Twice (LuiIns o.rd (upper_part n)) (ImmIns Addi o.rd o.rd (lower
 
 -- each field holds its value
 unfoldable pub operation_fits : Operation → Bool
-operation_fits (Moves p) = true
-operation_fits (Enters e) = true
+operation_fits (OrgOperation p) = true
+operation_fits (EntryOperation e) = true
 operation_fits (PutsByte b) = true
 operation_fits (PutsHalf h) = true
 operation_fits (PutsWord w) = true
@@ -63,8 +63,8 @@ operation_fits (Compressed c) = fits_row c
 
 -- what a line does to the place: that is clear before any label is known
 unfoldable pub extent_of : Kind → ℕ → Extent
-extent_of Org a = Jumps a
-extent_of Entry a = Marks
+extent_of Org a = OrgExtent a
+extent_of Entry a = EntryExtent
 extent_of Byte a = Takes 1
 extent_of Half a = Takes 2
 extent_of Zero a = Takes a
@@ -74,14 +74,14 @@ extent_of _ a = Takes 4
 
 -- how many bytes that is
 abbrev pub taken : Extent → ℕ
-taken (Jumps p) = 0
-taken Marks = 0
+taken (OrgExtent p) = 0
+taken EntryExtent = 0
 taken (Takes n) = n
 
 -- the bytes that it puts, the lowest first
 unfoldable pub bytes_of : Operation → List ℕ
-bytes_of (Moves p) = []
-bytes_of (Enters e) = []
+bytes_of (OrgOperation p) = []
+bytes_of (EntryOperation e) = []
 bytes_of (PutsByte b) = b ∷ []
 bytes_of (PutsHalf h) = to_le_bytes w16 h
 bytes_of (PutsWord w) = to_le_bytes w32 w

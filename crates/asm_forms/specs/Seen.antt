@@ -53,7 +53,7 @@ seen_reading (Ok r) = Ok (seen_read r)
 seen_reading (Err e) = Err e
 
 abbrev pub row_of : Form → Row
-row_of f = record { name = f.0.now; items = f.1.now; kind = f.2 }
+row_of f = record { name = f.name.now; items = f.items.now; kind = f.kind }
 
 abbrev pub form_rows : List Form → List Row
 form_rows table = map row_of table

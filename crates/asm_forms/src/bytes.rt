@@ -49,7 +49,7 @@ pub fn push_operation(bytes: &mut Vec<u8>, operation: &Operation) -> Result<(), 
     ensures { OnOk result (bytes.new.items ≡ bytes.old.items ++ bytes_of operation.now) }
 {
     match operation {
-        Operation::Moves(_) | Operation::Enters(_) => Ok(()),
+        Operation::Org(_) | Operation::Entry(_) => Ok(()),
         Operation::PutsByte(byte) => Ok(bytes.push(*byte)?),
         Operation::PutsHalf(half) => push_half(bytes, *half),
         Operation::PutsWord(word) => push_word(bytes, *word),

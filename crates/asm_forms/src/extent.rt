@@ -3,7 +3,7 @@
 /// The place becomes another, stays while the line names the entry, or moves on over so many bytes.
 #[derive(Clone, Copy, Debug, PartialEq, Eq, Drop)]
 pub enum Extent {
-    Jumps(u32),
-    Marks,
+    Org(u32),
+    Entry,
     Takes(u32),
 }

@@ -2,7 +2,7 @@
 ghost use Rattle.std.specs.Prelude.{◌≡◌, ◌+◌, ◌^◌, ◌≤◌, length, map, drop, All};
 ghost use Rattle.asm_text.specs.Words.{word_at};
 ghost use Rattle.asm_text.specs.Reading.{IsTokenOf};
-ghost use Rattle.asm_forms.specs.Fields.{read_field, read_item, read_items, mark_code, is_marked, as_upper, in_word, unsigned_word, with_number};
+ghost use Rattle.asm_forms.specs.Fields.{read_field, read_item, read_items, is_same_mark, is_marked, as_upper, in_word, unsigned_word, with_number};
 ghost use Rattle.asm_forms.specs.Seen.{seen, seen_option};
 
 use crate::field::Field;
@@ -67,16 +67,15 @@ fn read_field<'a>(
     }
 }
 
-fn mark_code(kind: TokenKind) -> u32
-    ensures { result ≡ mark_code kind }
+fn is_same_mark(kind: TokenKind, other: TokenKind) -> bool
+    ensures { result ≡ is_same_mark kind other }
 {
-    match kind {
-        TokenKind::Name => 0,
-        TokenKind::Number => 1,
-        TokenKind::Comma => 2,
-        TokenKind::Colon => 3,
-        TokenKind::Open => 4,
-        TokenKind::Close => 5,
+    match (kind, other) {
+        (TokenKind::Comma, TokenKind::Comma) => true,
+        (TokenKind::Colon, TokenKind::Colon) => true,
+        (TokenKind::Open, TokenKind::Open) => true,
+        (TokenKind::Close, TokenKind::Close) => true,
+        _ => false,
     }
 }
 
@@ -84,10 +83,11 @@ fn mark_code(kind: TokenKind) -> u32
 pub(crate) fn is_marked(kind: TokenKind, line: &[u8], token: Token) -> bool
     ensures { result ≡ is_marked kind (word_at line.now token) }
 {
+    // The line is named for the contract, which takes a token for a word of it.
     let _length = line.len();
     match token.kind {
         TokenKind::Name | TokenKind::Number => false,
-        _ => mark_code(kind) == mark_code(token.kind),
+        _ => is_same_mark(kind, token.kind),
     }
 }
 

@@ -4,4 +4,8 @@ use crate::kind::Kind;
 
 /// A name, the operands that follow it, and what the line does. What no operand gives is 0.
 #[derive(Clone, Copy, Drop)]
-pub struct Form(pub &'static str, pub &'static [Item], pub Kind);
+pub struct Form {
+    pub name: &'static str,
+    pub items: &'static [Item],
+    pub kind: Kind,
+}

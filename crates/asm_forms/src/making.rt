@@ -9,7 +9,7 @@ use crate::number::Number;
 use crate::operands::Operands;
 use crate::operation::Operation;
 use hart_words::sign;
-use rv_encoding::{ImmOp, Ins, fits};
+use rv_encoding::{BranchOp, CsrOp, ImmOp, Ins, fits};
 use rvc_encoding::{CRow, Cins, fits16};
 
 fn upper_part(number: u32) -> u32
@@ -42,6 +42,34 @@ fn compressed(row: CRow, a: u8, b: u8, imm: u32) -> Operation
     Operation::Compressed(Cins { row, a, b, imm })
 }
 
+fn branch(op: BranchOp, rs1: u8, rs2: u8, offset: u32) -> Operation
+    ensures { result ≡ Operation.Long (Ins.Branch op rs1 rs2 offset) }
+{
+    Operation::Long(Ins::Branch {
+        op,
+        rs1,
+        rs2,
+        offset,
+    })
+}
+
+fn fence(pred: u8, succ: u8) -> Operation
+    ensures { result ≡ Operation.Long (Ins.Fence pred succ) }
+{
+    Operation::Long(Ins::Fence { pred, succ })
+}
+
+fn csr_access(op: CsrOp, rd: u8, source: u8, csr: u16) -> Operation
+    ensures { result ≡ Operation.Long (Ins.Csr op rd source csr) }
+{
+    Operation::Long(Ins::Csr {
+        op,
+        rd,
+        source,
+        csr,
+    })
+}
+
 /// What a line does with its operands, once its number is known.
 #[tactic(auto, unfolding(crate::specs::Operations::made))]
 pub fn operation_of<'a>(kind: Kind, operands: Operands<'a>, number: u32) -> Operation
@@ -53,8 +81,8 @@ pub fn operation_of<'a>(kind: Kind, operands: Operands<'a>, number: u32) -> Oper
     let imm = number;
     let offset = number;
     match kind {
-        Kind::Org => Operation::Moves(operands.amount),
-        Kind::Entry => Operation::Enters(number),
+        Kind::Org => Operation::Org(operands.amount),
+        Kind::Entry => Operation::Entry(number),
         Kind::Byte => Operation::PutsByte((number % 0x100) as u8),
         Kind::Half => Operation::PutsHalf((number % 0x1_0000) as u16),
         Kind::Word => Operation::PutsWord(number),
@@ -63,26 +91,13 @@ pub fn operation_of<'a>(kind: Kind, operands: Operands<'a>, number: u32) -> Oper
         Kind::Auipc => Operation::Long(Ins::Auipc { rd, imm }),
         Kind::Jal => Operation::Long(Ins::Jal { rd, offset }),
         Kind::Jalr => Operation::Long(Ins::Jalr { rd, rs1, imm }),
-        Kind::Branch(op) => Operation::Long(Ins::Branch {
-            op,
-            rs1,
-            rs2,
-            offset,
-        }),
+        Kind::Branch(op) => branch(op, rs1, rs2, number),
         Kind::Load(op) => Operation::Long(Ins::Load { op, rd, rs1, imm }),
         Kind::Store(op) => Operation::Long(Ins::Store { op, rs1, rs2, imm }),
         Kind::Imm(op) => Operation::Long(Ins::Imm { op, rd, rs1, imm }),
         Kind::Reg(op) => Operation::Long(Ins::Reg { op, rd, rs1, rs2 }),
-        Kind::Fence => Operation::Long(Ins::Fence {
-            pred: rs1,
-            succ: rs2,
-        }),
-        Kind::Csr(op) => Operation::Long(Ins::Csr {
-            op,
-            rd,
-            source: rs1,
-            csr: operands.csr,
-        }),
+        Kind::Fence => fence(rs1, rs2),
+        Kind::Csr(op) => csr_access(op, rd, rs1, operands.csr),
         Kind::Fixed(instruction) => Operation::Long(instruction),
         Kind::Short(row) => compressed(row, rd, rs1, number),
         Kind::Pair => pair(rd, number),
@@ -99,7 +114,7 @@ pub fn is_fit(operation: &Operation) -> bool
         Operation::Long(instruction) => fits(instruction),
         Operation::Twice(first, second) => fits(first) && fits(second),
         Operation::Compressed(instruction) => fits16(instruction),
-        Operation::Moves(_) | Operation::Enters(_) | Operation::PutsByte(_) => true,
+        Operation::Org(_) | Operation::Entry(_) | Operation::PutsByte(_) => true,
         Operation::PutsHalf(_) | Operation::PutsWord(_) => true,
     }
 }
@@ -110,8 +125,8 @@ pub fn extent_of(kind: Kind, amount: u32) -> Extent
     ensures { result ≡ extent_of kind amount }
 {
     match kind {
-        Kind::Org => Extent::Jumps(amount),
-        Kind::Entry => Extent::Marks,
+        Kind::Org => Extent::Org(amount),
+        Kind::Entry => Extent::Entry,
         Kind::Byte => Extent::Takes(1),
         Kind::Half | Kind::Short(_) => Extent::Takes(2),
         Kind::Zero => Extent::Takes(amount),

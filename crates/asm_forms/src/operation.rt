@@ -5,8 +5,8 @@ use rvc_encoding::Cins;
 /// A change of the place, the entry, or bytes at the place.
 #[derive(Clone, Copy, Debug, PartialEq, Eq, Drop)]
 pub enum Operation {
-    Moves(u32),
-    Enters(u32),
+    Org(u32),
+    Entry(u32),
     PutsByte(u8),
     PutsHalf(u16),
     PutsWord(u32),

@@ -123,6 +123,7 @@ pub(crate) fn set_in(line: &[u8], token: Token) -> Option<u8>
 pub(crate) fn source_in(line: &[u8], token: Token) -> Option<u8>
     ensures { result ≡ in_word (unsigned_word 32) (word_at line.now token) }
 {
+    // The line is named for the contract, which takes a token for a word of it.
     let _length = line.len();
     match token.kind {
         TokenKind::Number => match unsigned_word(32, token.value) {
@@ -136,6 +137,7 @@ pub(crate) fn source_in(line: &[u8], token: Token) -> Option<u8>
 pub(crate) fn signed_in(half: u32, line: &[u8], token: Token) -> Option<u32>
     ensures { result ≡ in_word (signed_word half) (word_at line.now token) }
 {
+    // The line is named for the contract, which takes a token for a word of it.
     let _length = line.len();
     match token.kind {
         TokenKind::Number => signed_word(half, token.value),
@@ -147,6 +149,7 @@ pub(crate) fn below_in(limit: u32, line: &[u8], token: Token) -> Option<u32>
     ensures value { result ≡ in_word (unsigned_word limit) (word_at line.now token) }
     ensures small { IfSome result (λ n. n < limit) }
 {
+    // The line is named for the contract, which takes a token for a word of it.
     let _length = line.len();
     match token.kind {
         TokenKind::Number => unsigned_word(limit, token.value),
@@ -157,6 +160,7 @@ pub(crate) fn below_in(limit: u32, line: &[u8], token: Token) -> Option<u32>
 pub(crate) fn word_in(line: &[u8], token: Token) -> Option<u32>
     ensures { result ≡ in_word any_word (word_at line.now token) }
 {
+    // The line is named for the contract, which takes a token for a word of it.
     let _length = line.len();
     match token.kind {
         TokenKind::Number => any_word(token.value),

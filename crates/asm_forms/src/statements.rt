@@ -23,11 +23,11 @@ fn read_form<'a>(form: &Form, line: &'a [u8], tokens: &Tokens, at: usize) -> Opt
     requires inside { at ≤ length tokens.now }
     ensures { seen_task_option result ≡ read_form (row_of form.now) (map (word_at line.entry.now) (drop at tokens.now)) }
 {
-    match read_items(form.1, line, tokens, at, without_operands()) {
+    match read_items(form.items, line, tokens, at, without_operands()) {
         Some(operands) => {
-            if is_fit(&operation_of(form.2, operands, first_value(operands.number))) {
+            if is_fit(&operation_of(form.kind, operands, first_value(operands.number))) {
                 Some(Task {
-                    kind: form.2,
+                    kind: form.kind,
                     operands,
                 })
             } else {
@@ -52,7 +52,7 @@ fn chosen<'a>(
 {
     let mut why = AsmWhy::UnknownMnemonic;
     for form in table {
-        if form.0.as_bytes() == name {
+        if form.name.as_bytes() == name {
             match read_form(form, line, tokens, at) {
                 Some(task) => return Ok(task),
                 None => why = AsmWhy::BadOperands,

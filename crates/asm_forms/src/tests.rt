@@ -331,8 +331,8 @@ fn lengths_before_labels(rt: HostRuntime) {
         ("la a0, far", Extent::Takes(8)),
         ("c.j far", Extent::Takes(2)),
         (".zero 7", Extent::Takes(7)),
-        (".org 0x100", Extent::Jumps(256)),
-        (".entry far", Extent::Marks),
+        (".org 0x100", Extent::Org(256)),
+        (".entry far", Extent::Entry),
     ];
     for (line, want) in cases {
         let read = read_line(line.as_bytes()).expect(&rt, line);
@@ -345,5 +345,5 @@ fn lengths_before_labels(rt: HostRuntime) {
 fn the_table_begins_with_the_directives(rt: HostRuntime) {
     let forms = all_forms();
     assert!(rt; !forms.is_empty());
-    assert_eq!(rt; forms[0].0, ".org");
+    assert_eq!(rt; forms[0].name, ".org");
 }

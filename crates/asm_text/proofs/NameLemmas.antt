@@ -45,10 +45,6 @@ numbers_below (row ∷ rows) bound t e =
     let split = both (nat_lt row.1 bound) (list_all (λ row. nat_lt row.1 bound) rows) e in
     below_by (is_same_text row.0 t) row.1 bound (number_in rows t) split.0 (numbers_below rows bound t split.1)
 
-pub registers_below : (t : List ℕ) → IfSome (register_of t) (λ m. m < 32)
-unfolding register_of
-registers_below t = numbers_below registers 32 t refl
-
 pub csrs_below : (t : List ℕ) → IfSome (csr_of t) (λ m. m < 4096)
 unfolding csr_of
 csrs_below t = numbers_below csrs 4096 t refl

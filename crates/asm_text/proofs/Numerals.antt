@@ -25,10 +25,6 @@ glyph_byte n h = grind (arith, nat_tests)
 test_of : (m n : ℕ) → m < n → nat_lt m n ≡ true
 test_of m n h = grind (arith, nat_tests)
 
-passed : (t : Bool) (n m : ℕ) → t ≡ true → cond t (Some n) None ≡ Some n
-passed true n m e = refl
-passed false n m e = cc
-
 push_by : (t : Bool) (o p : Option ℕ) (n v : ℕ) → (o ≡ Some n → p ≡ Some v) → cond t o None ≡ Some n → cond t p None ≡ Some v
 push_by true o p n v f e = f e
 push_by false o p n v f e = cc

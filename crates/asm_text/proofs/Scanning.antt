@@ -51,13 +51,6 @@ drop_on [] m (suc n) = drop_none m ∙ sym (drop_none (suc n + m))
 drop_on (b ∷ bs) m (suc n) = drop_on bs m n ∙ ap (λ k. drop k (b ∷ bs)) (let e : suc (n + m) ≡ suc n + m = omega arith in e)
 
 -- which front is seen so
-pub saw_space : (at : ℕ) (f : Front) → seen at f ≡ FoundSpace → f ≡ Space
-saw_space at Space e = refl
-saw_space at Rest e = cc
-saw_space at (Taken w n) e = cc
-saw_space at NoToken e = cc
-saw_space at NoNumber e = cc
-
 pub saw_comment : (at : ℕ) (f : Front) → seen at f ≡ FoundComment → f ≡ Rest
 saw_comment at Space e = cc
 saw_comment at Rest e = refl
@@ -80,11 +73,6 @@ saw_fault at NoToken x rest e = cc
 saw_fault at NoNumber x rest e = cc
 
 -- the four steps
-pub on_space : (line : List ℕ) (at : ℕ) → at < length line → seen at (front_of (get_or line at 0) (drop (at + 1) line)) ≡ FoundSpace
-    → told (scanned 0 at (drop at line)) ≡ told (scanned 0 (at + 1) (drop (at + 1) line))
-on_space line at h e =
-    ap told (scanned_at line at Space h (saw_space at _ e) ∙ ap (λ k. scanned 0 k (drop (at + 1) line)) (let e : at + 1 + 0 ≡ at + 1 = omega arith in e))
-
 pub on_comment : (line : List ℕ) (at : ℕ) → at < length line → seen at (front_of (get_or line at 0) (drop (at + 1) line)) ≡ FoundComment
     → told (scanned 0 at (drop at line)) ≡ ended [] None
 on_comment line at h e = ap told (scanned_at line at Rest h (saw_comment at _ e))

@@ -77,9 +77,6 @@ left_on xs i d h =
     let one : suc i ≡ i + 1 = omega arith in
     drop-cons xs i d h ∙ ap (λ k. get_or xs i d ∷ drop k xs) one
 
-pub none_over : (xs : List Stretch) (i : ℕ) → length xs ≤ i → length (drop i xs) ≡ 0
-none_over xs i h = omega (arith, length-drop i xs)
-
 -- what is added is sound
 sound_left : (whole : List SegmentView) (left : List Stretch) (rest : List ℕ) (segments : List SegmentView) → Adding whole left rest segments → AreSound segments → AreSound whole
 sound_left whole [] rest segments h sound = subst AreSound (added whole [] rest segments refl h) sound

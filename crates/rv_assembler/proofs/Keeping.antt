@@ -13,7 +13,7 @@ use Rattle.rv_assembler.specs.Source.{◌>>=◌, at_line, pass, Passed, laid_by,
 use Rattle.asm_forms.specs.declared.operation.Operation.{Operation}
 use Rattle.rv_assembler.specs.declared.stretch.Stretch.{Stretch}
 use Rattle.asm_forms.specs.declared.extent.Extent.{Extent}
-use Rattle.asm_forms.specs.declared.extent.Extent.TheVariants.{Jumps, Marks, Takes}
+use Rattle.asm_forms.specs.declared.extent.Extent.TheVariants.{Org as OrgExtent, Entry as EntryExtent, Takes}
 use Rattle.asm_forms.specs.declared.asm_why.AsmWhy.{AsmWhy}
 use Rattle.asm_forms.specs.declared.asm_why.AsmWhy.TheVariants.{BadOperands, OutsideMemory, Overlap, TooLarge, OutOfReach}
 use Rattle.asm_forms.proofs.Fitting.{reading_fits, Positive, positive, bytes_taken}
@@ -85,10 +85,10 @@ total_grown (Some s) ss place n = let a = total_more ss (record { base = s.base;
 
 pub laid_keeps : (e : Extent) (l after : Laid) (bytes new : List ℕ) → Positive e → length new ≡ taken e → laid e l ≡ Ok after → Keeps l bytes → Keeps after (bytes ++ new)
 unfolding laid
-laid_keeps (Jumps p) l after bytes new h len e k =
+laid_keeps (OrgExtent p) l after bytes new h len e k =
     subst (λ (x : Laid). Keeps x (bytes ++ new)) (ok_is _ after e)
     (record { few = shut_few l.growing l.closed k.few k.grows; follow = shut_follow l.growing l.closed k.follow k.grows; grows = tt; whole = omega (arith, k.whole, len, length-append bytes new) })
-laid_keeps Marks l after bytes new h len e k =
+laid_keeps EntryExtent l after bytes new h len e k =
     subst (λ (x : Laid). Keeps x (bytes ++ new)) (ok_is _ after (cond_ok l.entered BadOperands _ after e).1)
     (record { few = k.few; follow = k.follow; grows = k.grows; whole = omega (arith, k.whole, len, length-append bytes new) })
 laid_keeps (Takes n) l after bytes new h len e k =

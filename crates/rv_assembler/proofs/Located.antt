@@ -14,7 +14,7 @@ use Rattle.rv_assembler.specs.Relation.{HasBytes, behind}
 use Rattle.rv_assembler.specs.declared.stretch.Stretch.{Stretch}
 use Rattle.asm_forms.specs.Operations.{taken}
 use Rattle.asm_forms.specs.declared.extent.Extent.{Extent}
-use Rattle.asm_forms.specs.declared.extent.Extent.TheVariants.{Jumps, Marks, Takes}
+use Rattle.asm_forms.specs.declared.extent.Extent.TheVariants.{Org as OrgExtent, Entry as EntryExtent, Takes}
 use Rattle.asm_forms.specs.declared.asm_why.AsmWhy.TheVariants.{BadOperands, OutsideMemory, Overlap, TooLarge}
 use Rattle.rv_assembler.proofs.Keeping.{cond_ok, ok_is, not_true}
 
@@ -34,17 +34,17 @@ took n l after e =
     let over = cond_ok (overlaps t l.closed) Overlap _ after outside.1 in
     record { placed = not_true _ outside.0; is = ok_is _ after over.1 }
 
-pub jumped : (p : ℕ) (l after : Laid) → laid (Jumps p) l ≡ Ok after → record { place = p; growing = None; closed = shut l.growing l.closed; entered = l.entered } ≡ after
+pub jumped : (p : ℕ) (l after : Laid) → laid (OrgExtent p) l ≡ Ok after → record { place = p; growing = None; closed = shut l.growing l.closed; entered = l.entered } ≡ after
 unfolding laid
 jumped p l after e = ok_is _ after e
 
-pub marked : (l after : Laid) → laid Marks l ≡ Ok after → record { place = l.place; growing = l.growing; closed = l.closed; entered = true } ≡ after
+pub marked : (l after : Laid) → laid EntryExtent l ≡ Ok after → record { place = l.place; growing = l.growing; closed = l.closed; entered = true } ≡ after
 unfolding laid
 marked l after e = ok_is _ after (cond_ok l.entered BadOperands _ after e).1
 
 pub laid_place : (e : Extent) (l after : Laid) → laid e l ≡ Ok after → after.place ≡ behind e l.place
-laid_place (Jumps p) l after e = ap (λ (x : Laid). x.place) (sym (jumped p l after e))
-laid_place Marks l after e = ap (λ (x : Laid). x.place) (sym (marked l after e))
+laid_place (OrgExtent p) l after e = ap (λ (x : Laid). x.place) (sym (jumped p l after e))
+laid_place EntryExtent l after e = ap (λ (x : Laid). x.place) (sym (marked l after e))
 laid_place (Takes n) l after e = ap (λ (x : Laid). x.place) (sym (took n l after e).is)
 
 pub ends_grown : (g : Option Stretch) (p n : ℕ) → Ends g p → (grown g p n).base + (grown g p n).size ≡ p + n
@@ -52,8 +52,8 @@ ends_grown None p n h = refl
 ends_grown (Some s) p n h = omega (arith, h)
 
 pub laid_ends : (e : Extent) (l after : Laid) → laid e l ≡ Ok after → Ends l.growing l.place → Ends after.growing after.place
-laid_ends (Jumps p) l after e h = subst (λ (x : Laid). Ends x.growing x.place) (jumped p l after e) tt
-laid_ends Marks l after e h = subst (λ (x : Laid). Ends x.growing x.place) (marked l after e) h
+laid_ends (OrgExtent p) l after e h = subst (λ (x : Laid). Ends x.growing x.place) (jumped p l after e) tt
+laid_ends EntryExtent l after e h = subst (λ (x : Laid). Ends x.growing x.place) (marked l after e) h
 laid_ends (Takes n) l after e h = subst (λ (x : Laid). Ends x.growing x.place) (took n l after e).is (ends_grown l.growing l.place n h)
 
 pub in_by : (b c : Bool) (at : ℕ) → is_in_memory (place_by b c at) ≡ true → (b || c) ≡ true
@@ -70,8 +70,8 @@ holds_small at width e = inside_small at width (in_by (is_in_rom at width) (is_i
 
 -- no place wraps
 pub moved_behind : (e : Extent) (l after : Laid) → laid e l ≡ Ok after → Ends l.growing l.place → moved e l.place ≡ behind e l.place
-moved_behind (Jumps p) l after e h = refl
-moved_behind Marks l after e h = refl
+moved_behind (OrgExtent p) l after e h = refl
+moved_behind EntryExtent l after e h = refl
 moved_behind (Takes n) l after e h =
     let small : (grown l.growing l.place n).base + (grown l.growing l.place n).size < 2 ^ 32 = holds_small _ _ (took n l after e).placed in
     let same = ends_grown l.growing l.place n h in
@@ -97,8 +97,8 @@ after_growth None c p n all h = (h.0 ∷ h.1, h.2)
 after_growth (Some s) c p n all h = (h.0, h.1, h.2, h.3, omega (arith, h.4))
 
 pub becomes_before : (e : Extent) (l after : Laid) (all : List Stretch) → laid e l ≡ Ok after → Becomes after.growing after.closed all → Becomes l.growing l.closed all
-becomes_before (Jumps p) l after all e h = after_shut l.growing l.closed all (subst (λ (x : Laid). Becomes x.growing x.closed all) (sym (jumped p l after e)) h)
-becomes_before Marks l after all e h = subst (λ (x : Laid). Becomes x.growing x.closed all) (sym (marked l after e)) h
+becomes_before (OrgExtent p) l after all e h = after_shut l.growing l.closed all (subst (λ (x : Laid). Becomes x.growing x.closed all) (sym (jumped p l after e)) h)
+becomes_before EntryExtent l after all e h = subst (λ (x : Laid). Becomes x.growing x.closed all) (sym (marked l after e)) h
 becomes_before (Takes n) l after all e h = after_growth l.growing l.closed l.place n all (subst (λ (x : Laid). Becomes x.growing x.closed all) (sym (took n l after e).is) h)
 
 -- ---- bytes in their segment
@@ -164,7 +164,7 @@ no_bytes all p new e = λ k lt. absurd (omega arith)
 
 pub line_bytes : (e : Extent) (l after : Laid) (all : List Stretch) (bytes new more whole : List ℕ) → laid e l ≡ Ok after → Becomes after.growing after.closed all → Ends l.growing l.place
     → length new ≡ taken e → total (shut l.growing l.closed) ≡ length bytes → whole ≡ (bytes ++ new) ++ more → total all ≡ length whole → HasBytes (cut_segments all whole) l.place new
-line_bytes (Jumps p) l after all bytes new more whole e h ends len kept is sum = no_bytes _ _ new len
-line_bytes Marks l after all bytes new more whole e h ends len kept is sum = no_bytes _ _ new len
+line_bytes (OrgExtent p) l after all bytes new more whole e h ends len kept is sum = no_bytes _ _ new len
+line_bytes EntryExtent l after all bytes new more whole e h ends len kept is sum = no_bytes _ _ new len
 line_bytes (Takes n) l after all bytes new more whole e h ends len kept is sum =
     grown_bytes l.growing l.closed all l.place n bytes new more whole (subst (λ (x : Laid). Becomes x.growing x.closed all) (sym (took n l after e).is) h) ends len kept is sum

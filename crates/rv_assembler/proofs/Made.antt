@@ -12,7 +12,7 @@ use Rattle.asm_forms.specs.declared.kind.Kind.{Kind}
 use Rattle.asm_forms.specs.declared.kind.Kind.TheVariants.{Org, Entry, Byte, Half, Zero, Short, Pair}
 use Rattle.asm_forms.specs.declared.operation.Operation.{Operation}
 use Rattle.asm_forms.specs.declared.extent.Extent.{Extent}
-use Rattle.asm_forms.specs.declared.extent.Extent.TheVariants.{Jumps, Marks, Takes}
+use Rattle.asm_forms.specs.declared.extent.Extent.TheVariants.{Org as OrgExtent, Entry as EntryExtent, Takes}
 use Rattle.asm_forms.specs.declared.asm_why.AsmWhy.{AsmWhy}
 use Rattle.asm_forms.specs.declared.asm_why.AsmWhy.TheVariants.{BadOperands, OutOfReach, OutsideMemory, Overlap, TooLarge, NoEntry}
 use Rattle.asm_forms.proofs.Fitting.{reading_fits, Positive, positive}
@@ -169,8 +169,8 @@ record First (base size : ℕ) (es : List Extent) : Type 0 where
 
 first : (base size : ℕ) (es : List Extent) → 0 < size → First base size es
 first base size [] h = record { stretch = record { base = base; size = size }; rest = []; is = first_filled (record { base = base; size = size }) [] h; from = refl; long = omega arith }
-first base size (Jumps p ∷ es) h = record { stretch = record { base = base; size = size }; rest = filled (stretches p 0 es); is = first_filled (record { base = base; size = size }) (stretches p 0 es) h; from = refl; long = omega arith }
-first base size (Marks ∷ es) h = let f = first base size es h in record { stretch = f.stretch; rest = f.rest; is = f.is; from = f.from; long = f.long }
+first base size (OrgExtent p ∷ es) h = record { stretch = record { base = base; size = size }; rest = filled (stretches p 0 es); is = first_filled (record { base = base; size = size }) (stretches p 0 es) h; from = refl; long = omega arith }
+first base size (EntryExtent ∷ es) h = let f = first base size es h in record { stretch = f.stretch; rest = f.rest; is = f.is; from = f.from; long = f.long }
 first base size (Takes n ∷ es) h = let f = first base (size + n) es (omega arith) in record { stretch = f.stretch; rest = f.rest; is = f.is; from = f.from; long = omega (arith, f.long) }
 
 not_full : (g : Option Stretch) (c : List Stretch) → length c < 64 → is_full g c ≡ false
@@ -198,23 +198,23 @@ takes n l es all some is follow few =
           ∙ passes_by (overlaps t l.closed) (Err Overlap) (Ok after) free,
     )
 
-jumps : (p : ℕ) (l : Laid) → (after : Laid) × (laid (Jumps p) l ≡ Ok after)
+jumps : (p : ℕ) (l : Laid) → (after : Laid) × (laid (OrgExtent p) l ≡ Ok after)
 unfolding laid
 jumps p l = (record { place = p; growing = None; closed = shut l.growing l.closed; entered = l.entered }, refl)
 
-marks : (l : Laid) → l.entered ≡ false → (after : Laid) × (laid Marks l ≡ Ok after)
+marks : (l : Laid) → l.entered ≡ false → (after : Laid) × (laid EntryExtent l ≡ Ok after)
 unfolding laid
 marks l e =
     let after : Laid = record { place = l.place; growing = l.growing; closed = l.closed; entered = true } in
     (after, passes_by l.entered (Err BadOperands) (Ok after) e)
 
-lays : (e : Extent) (l : Laid) (es : List Extent) (all : List Stretch) → Positive e → (e ≡ Marks → l.entered ≡ false) → expected l (e ∷ es) ≡ all → AllFollow [] all → length all ≤ 64 → (after : Laid) × (laid e l ≡ Ok after)
-lays (Jumps p) l es all some once is follow few = jumps p l
-lays Marks l es all some once is follow few = marks l (once refl)
+lays : (e : Extent) (l : Laid) (es : List Extent) (all : List Stretch) → Positive e → (e ≡ EntryExtent → l.entered ≡ false) → expected l (e ∷ es) ≡ all → AllFollow [] all → length all ≤ 64 → (after : Laid) × (laid e l ≡ Ok after)
+lays (OrgExtent p) l es all some once is follow few = jumps p l
+lays EntryExtent l es all some once is follow few = marks l (once refl)
 lays (Takes n) l es all some once is follow few = takes n l es all some is follow few
 
 -- only an `.entry` takes nothing and stays
-marks_entry : (k : Kind) (a : ℕ) → extent_of k a ≡ Marks → entry_kind k ≡ 1
+marks_entry : (k : Kind) (a : ℕ) → extent_of k a ≡ EntryExtent → entry_kind k ≡ 1
 unfolding extent_of
 marks_entry Entry a e = refl
 marks_entry Org a e = cc

@@ -13,7 +13,7 @@ use Rattle.asm_forms.specs.Statements.{Task, reading}
 use Rattle.asm_forms.specs.declared.kind.Kind.{Kind}
 use Rattle.asm_forms.specs.declared.kind.Kind.TheVariants.{Entry}
 use Rattle.asm_forms.specs.declared.extent.Extent.{Extent}
-use Rattle.asm_forms.specs.declared.extent.Extent.TheVariants.{Jumps, Marks, Takes}
+use Rattle.asm_forms.specs.declared.extent.Extent.TheVariants.{Org as OrgExtent, Entry as EntryExtent, Takes}
 use Rattle.asm_forms.proofs.Fitting.{bytes_taken}
 use Rattle.rv_assembler.specs.Lines.{lines_of}
 use Rattle.rv_assembler.specs.Source.{Program, resolved, task_in, task_of}
@@ -111,8 +111,8 @@ covered_on p q base size place n at h g = λ a low high. by_place a low high (be
 
 covers_on : (p q : Program) (e : Extent) (es : List Extent) (base size place : ℕ) → base + size ≡ place → Covered p q base size → Covered p q place (taken e)
     → ((b m : ℕ) → b + m ≡ behind e place → Covered p q b m → AllCovered p q (stretches b m es)) → AllCovered p q (stretches base size (e ∷ es))
-covers_on p q (Jumps t) es base size place at h g rest = (h, rest t 0 (omega arith) (λ a low high. absurd (omega arith)))
-covers_on p q Marks es base size place at h g rest = rest base size at h
+covers_on p q (OrgExtent t) es base size place at h g rest = (h, rest t 0 (omega arith) (λ a low high. absurd (omega arith)))
+covers_on p q EntryExtent es base size place at h g rest = rest base size at h
 covers_on p q (Takes n) es base size place at h g rest = rest base (size + n) (omega arith) (covered_on p q base size place n at h g)
 
 all_covered : (p q : Program) (ls : List (List ℕ)) (base size place : ℕ) → p.symbols ≡ q.symbols → base + size ≡ place → Covered p q base size → AreLines p place ls → AreLines q place ls → AllCovered p q (stretches base size (extents ls))

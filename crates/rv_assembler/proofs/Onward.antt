@@ -67,18 +67,12 @@ pub cut_less : (text : List ℕ) → left (cut text).1 ≤ length text
 unfolding cut
 cut_less text = less_there text (nat_lt (position_or_len is_feed text) (length text)) refl
 
-pub starts : {S : Type 0} (step : S → List ℕ → Result S AsmWhy) (bytes : List ℕ) (start : S) → ReadsOn step bytes start (Some bytes) 1 start
-starts step bytes start = record { told = refl; few = omega arith }
-
 one_line : {S : Type 0} (step : S → List ℕ → Result S AsmWhy) (text : List ℕ) (number : ℕ) (s : S)
     → pass step (lines_of text) number s ≡ at_line number (step s (without_return (cut text).0)) >>= pass step (lines_left (cut text).1) (number + 1)
 unfolding pass
 one_line step text number s = rw (cut_lines text) refl
 
 -- the parts of a cut
-pub first_part : (text line : List ℕ) (after : Option (List ℕ)) → (line, after) ≡ cut text → (cut text).0 ≡ line
-first_part text line after is = sym (ap (λ (p : List ℕ × Option (List ℕ)). p.0) is)
-
 pub second_part : (text line : List ℕ) (after : Option (List ℕ)) → (line, after) ≡ cut text → (cut text).1 ≡ after
 second_part text line after is = sym (ap (λ (p : List ℕ × Option (List ℕ)). p.1) is)
 

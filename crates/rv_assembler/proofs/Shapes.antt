@@ -8,7 +8,7 @@ use Rattle.asm_forms.specs.Statements.{Task}
 use Rattle.asm_forms.specs.declared.kind.Kind.{Kind}
 use Rattle.asm_forms.specs.declared.kind.Kind.TheVariants.{Org, Entry, Byte, Half, Zero, Short, Pair}
 use Rattle.asm_forms.specs.declared.extent.Extent.{Extent}
-use Rattle.asm_forms.specs.declared.extent.Extent.TheVariants.{Jumps, Marks, Takes}
+use Rattle.asm_forms.specs.declared.extent.Extent.TheVariants.{Org as OrgExtent, Entry as EntryExtent, Takes}
 use Rattle.asm_forms.specs.declared.asm_why.AsmWhy.TheVariants.{BadOperands}
 use Rattle.asm_forms.proofs.Fitting.{Positive}
 use Rattle.rv_assembler.specs.Laying.{Laid, laid, shut, grown}
@@ -48,8 +48,8 @@ take_shape (Some s) c p n es = refl
 
 -- no line changes them
 pub laid_shape : (e : Extent) (l after : Laid) (es : List Extent) → laid e l ≡ Ok after → HasSome l.growing → expected l (e ∷ es) ≡ expected after es
-laid_shape (Jumps p) l after es e h = jump_shape l.growing l.closed (stretches p 0 es) l.place h ∙ ap (λ (x : Laid). expected x es) (jumped p l after e)
-laid_shape Marks l after es e h = ap (λ (x : Laid). expected x es) (marked l after e)
+laid_shape (OrgExtent p) l after es e h = jump_shape l.growing l.closed (stretches p 0 es) l.place h ∙ ap (λ (x : Laid). expected x es) (jumped p l after e)
+laid_shape EntryExtent l after es e h = ap (λ (x : Laid). expected x es) (marked l after e)
 laid_shape (Takes n) l after es e h = take_shape l.growing l.closed l.place n es ∙ ap (λ (x : Laid). expected x es) (took n l after e).is
 
 pub line_shape : (k : Option Task) (l after : Laid) (es : List Extent) → laid_by k l ≡ Ok after → HasSome l.growing → expected l (extent_by k ∷ es) ≡ expected after es
@@ -57,8 +57,8 @@ line_shape None l after es e h = ap (λ (x : Laid). expected x es) (ok_is l afte
 line_shape (Some k) l after es e h = laid_shape (extent_of k.kind k.operands.amount) l after es e h
 
 laid_some : (e : Extent) (l after : Laid) → laid e l ≡ Ok after → Positive e → HasSome l.growing → HasSome after.growing
-laid_some (Jumps p) l after e f h = subst (λ (x : Laid). HasSome x.growing) (jumped p l after e) tt
-laid_some Marks l after e f h = subst (λ (x : Laid). HasSome x.growing) (marked l after e) h
+laid_some (OrgExtent p) l after e f h = subst (λ (x : Laid). HasSome x.growing) (jumped p l after e) tt
+laid_some EntryExtent l after e f h = subst (λ (x : Laid). HasSome x.growing) (marked l after e) h
 laid_some (Takes n) l after e f h = subst (λ (x : Laid). HasSome x.growing) (took n l after e).is (size_grown l.growing l.place n f)
 
 pub line_some : (k : Option Task) (l after : Laid) → laid_by k l ≡ Ok after → ((x : Task) → k ≡ Some x → Positive (extent_of x.kind x.operands.amount)) → HasSome l.growing → HasSome after.growing
@@ -75,16 +75,16 @@ abbrev pub count : Bool → ℕ
 count true = 1
 count false = 0
 
-counted : (e : Extent) (l after : Laid) → laid e l ≡ Ok after → (e ≡ Marks → ⊥) → after.entered ≡ l.entered
-counted (Jumps p) l after e n = ap (λ (x : Laid). x.entered) (sym (jumped p l after e))
-counted Marks l after e n = absurd (n refl)
+counted : (e : Extent) (l after : Laid) → laid e l ≡ Ok after → (e ≡ EntryExtent → ⊥) → after.entered ≡ l.entered
+counted (OrgExtent p) l after e n = ap (λ (x : Laid). x.entered) (sym (jumped p l after e))
+counted EntryExtent l after e n = absurd (n refl)
 counted (Takes k) l after e n = ap (λ (x : Laid). x.entered) (sym (took k l after e).is)
 
-not_entered : (l after : Laid) → laid Marks l ≡ Ok after → l.entered ≡ false
+not_entered : (l after : Laid) → laid EntryExtent l ≡ Ok after → l.entered ≡ false
 unfolding laid
 not_entered l after e = (cond_ok l.entered BadOperands _ after e).0
 
-entry_counted : (l after : Laid) → laid Marks l ≡ Ok after → count l.entered + 1 ≡ count after.entered
+entry_counted : (l after : Laid) → laid EntryExtent l ≡ Ok after → count l.entered + 1 ≡ count after.entered
 entry_counted l after e = ap (λ b. count b + 1) (not_entered l after e) ∙ ap (λ (x : Laid). count x.entered) (marked l after e)
 
 same_count : (a b : Bool) → b ≡ a → count a + 0 ≡ count b
@@ -94,7 +94,7 @@ same_count a false e = ap (λ x. count x + 0) (sym e)
 kind_counted : (k : Kind) (a : ℕ) (l after : Laid) → laid (extent_of k a) l ≡ Ok after → count l.entered + entry_kind k ≡ count after.entered
 unfolding extent_of
 kind_counted Entry a l after e = entry_counted l after e
-kind_counted Org a l after e = same_count l.entered after.entered (counted (Jumps a) l after e (λ x. cc))
+kind_counted Org a l after e = same_count l.entered after.entered (counted (OrgExtent a) l after e (λ x. cc))
 kind_counted Byte a l after e = same_count l.entered after.entered (counted (Takes 1) l after e (λ x. cc))
 kind_counted Half a l after e = same_count l.entered after.entered (counted (Takes 2) l after e (λ x. cc))
 kind_counted Zero a l after e = same_count l.entered after.entered (counted (Takes a) l after e (λ x. cc))

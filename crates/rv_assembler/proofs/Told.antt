@@ -20,7 +20,7 @@ use Rattle.asm_forms.specs.declared.kind.Kind.TheVariants.{Entry}
 use Rattle.asm_forms.specs.declared.operation.Operation.{Operation}
 use Rattle.rv_assembler.specs.declared.stretch.Stretch.{Stretch}
 use Rattle.asm_forms.specs.declared.extent.Extent.{Extent}
-use Rattle.asm_forms.specs.declared.extent.Extent.TheVariants.{Jumps, Marks, Takes}
+use Rattle.asm_forms.specs.declared.extent.Extent.TheVariants.{Org as OrgExtent, Entry as EntryExtent, Takes}
 use Rattle.asm_forms.specs.declared.asm_why.AsmWhy.{AsmWhy}
 use Rattle.asm_forms.specs.declared.asm_why.AsmWhy.TheVariants.{BadOperands, OutOfReach, NoEntry, TooLarge}
 use Rattle.rv_assembler.specs.declared.assembling.TheConstants.{MAX_SOURCE}
@@ -121,11 +121,11 @@ labelled_more (Some t) place ss more h = address_more ss more t place h
 -- ---- the entry
 
 entered_stays : (e : Extent) (l after : Laid) → laid e l ≡ Ok after → l.entered ≡ true → after.entered ≡ true
-entered_stays (Jumps p) l after e h = ap (λ (x : Laid). x.entered) (sym (jumped p l after e)) ∙ h
-entered_stays Marks l after e h = ap (λ (x : Laid). x.entered) (sym (marked l after e))
+entered_stays (OrgExtent p) l after e h = ap (λ (x : Laid). x.entered) (sym (jumped p l after e)) ∙ h
+entered_stays EntryExtent l after e h = ap (λ (x : Laid). x.entered) (sym (marked l after e))
 entered_stays (Takes n) l after e h = ap (λ (x : Laid). x.entered) (sym (took n l after e).is) ∙ h
 
-entry_refused : (l after : Laid) → laid Marks l ≡ Ok after → l.entered ≡ true → ⊥
+entry_refused : (l after : Laid) → laid EntryExtent l ≡ Ok after → l.entered ≡ true → ⊥
 unfolding laid
 entry_refused l after e h = let p = cond_ok l.entered BadOperands _ after e in let f : l.entered ≡ false = p.0 in cc
 

@@ -7,7 +7,7 @@ use Rattle.hart_memory.specs.Place.{holds}
 use Rattle.hart_memory.specs.declared.image.TheConstants.{MAX_SEGMENTS}
 use Rattle.rv_assembler.specs.declared.stretch.Stretch.{Stretch}
 use Rattle.asm_forms.specs.declared.extent.Extent.{Extent}
-use Rattle.asm_forms.specs.declared.extent.Extent.TheVariants.{Jumps, Marks, Takes}
+use Rattle.asm_forms.specs.declared.extent.Extent.TheVariants.{Org as OrgExtent, Entry as EntryExtent, Takes}
 use Rattle.asm_forms.specs.declared.asm_why.AsmWhy.{AsmWhy}
 use Rattle.asm_forms.specs.declared.asm_why.AsmWhy.TheVariants.{BadOperands, OutsideMemory, Overlap, TooLarge}
 
@@ -51,8 +51,8 @@ grow t p l =
 
 -- a jump ends the segment that grows; the entry is named once
 unfoldable pub laid : Extent → Laid → Result Laid AsmWhy
-laid (Jumps p) l = Ok (record { place = p; growing = None; closed = shut l.growing l.closed; entered = l.entered })
-laid Marks l = cond l.entered (Err BadOperands) (Ok (record { place = l.place; growing = l.growing; closed = l.closed; entered = true }))
+laid (OrgExtent p) l = Ok (record { place = p; growing = None; closed = shut l.growing l.closed; entered = l.entered })
+laid EntryExtent l = cond l.entered (Err BadOperands) (Ok (record { place = l.place; growing = l.growing; closed = l.closed; entered = true }))
 laid (Takes n) l = cond (is_full l.growing l.closed) (Err TooLarge) (grow (grown l.growing l.place n) (l.place + n) l)
 
 -- the segment that grows ends at the place

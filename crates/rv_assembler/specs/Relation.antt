@@ -14,9 +14,9 @@ use Rattle.asm_forms.specs.declared.asm_why.AsmWhy.{AsmWhy}
 use Rattle.asm_forms.specs.declared.kind.Kind.{Kind}
 use Rattle.asm_forms.specs.declared.kind.Kind.TheVariants.{Entry}
 use Rattle.asm_forms.specs.declared.operation.Operation.{Operation}
-use Rattle.asm_forms.specs.declared.operation.Operation.TheVariants.{Enters}
+use Rattle.asm_forms.specs.declared.operation.Operation.TheVariants.{Entry as EntryOperation}
 use Rattle.asm_forms.specs.declared.extent.Extent.{Extent}
-use Rattle.asm_forms.specs.declared.extent.Extent.TheVariants.{Jumps, Marks, Takes}
+use Rattle.asm_forms.specs.declared.extent.Extent.TheVariants.{Org as OrgExtent, Entry as EntryExtent, Takes}
 
 -- a segment has the byte v at the address a
 pub record HasByte (segments : List SegmentView) (a v : ℕ) : Type 0 where
@@ -38,7 +38,7 @@ IsLabelled symbols place (Some t) = address_of symbols t ≡ Some place
 
 -- an `.entry` names the image's entry
 abbrev pub IsEntry : ℕ → Operation → Type 0
-IsEntry start (Enters e) = start ≡ e
+IsEntry start (EntryOperation e) = start ≡ e
 IsEntry start _ = Unit {0}
 
 -- the bytes that spell the instruction stand at its place, where its number is that of the labels' addresses
@@ -58,13 +58,13 @@ pub record IsLine (p : Program) (place : ℕ) (line : List ℕ) : Type 0 where
 
 -- what a line does to the place, from the line alone
 abbrev pub extent_by : Option Task → Extent
-extent_by None = Marks
+extent_by None = EntryExtent
 extent_by (Some k) = extent_of k.kind k.operands.amount
 
 -- the place behind a line: an `.org` sets it, and any other line adds its length
 abbrev pub behind : Extent → ℕ → ℕ
-behind (Jumps p) place = p
-behind Marks place = place
+behind (OrgExtent p) place = p
+behind EntryExtent place = place
 behind (Takes n) place = place + n
 
 -- each line stands at its place, the first of them at this one
@@ -101,8 +101,8 @@ extents ls = map (λ l. extent_by (task_of (reading l))) ls
 -- what lies between the `.org` lines, where so many bytes from the base on lie before these lines
 abbrev pub stretches : ℕ → ℕ → List Extent → List Stretch
 stretches base size [] = record { base = base; size = size } ∷ []
-stretches base size (Jumps p ∷ es) = record { base = base; size = size } ∷ stretches p 0 es
-stretches base size (Marks ∷ es) = stretches base size es
+stretches base size (OrgExtent p ∷ es) = record { base = base; size = size } ∷ stretches p 0 es
+stretches base size (EntryExtent ∷ es) = stretches base size es
 stretches base size (Takes n ∷ es) = stretches base (size + n) es
 
 abbrev pub filled_by : Bool → Stretch → List Stretch → List Stretch

@@ -10,10 +10,10 @@ use Rattle.rv_assembler.specs.Symbols.{Symbol, address_of, with_label}
 use Rattle.rv_assembler.specs.Laying.{Laid, nothing_laid, laid, shut}
 use Rattle.rv_assembler.specs.Lines.{lines_of}
 use Rattle.asm_forms.specs.declared.operation.Operation.{Operation}
-use Rattle.asm_forms.specs.declared.operation.Operation.TheVariants.{Enters}
+use Rattle.asm_forms.specs.declared.operation.Operation.TheVariants.{Entry as EntryOperation}
 use Rattle.rv_assembler.specs.declared.stretch.Stretch.{Stretch}
 use Rattle.asm_forms.specs.declared.extent.Extent.{Extent}
-use Rattle.asm_forms.specs.declared.extent.Extent.TheVariants.{Jumps, Marks, Takes}
+use Rattle.asm_forms.specs.declared.extent.Extent.TheVariants.{Org as OrgExtent, Entry as EntryExtent, Takes}
 use Rattle.asm_forms.specs.declared.asm_why.AsmWhy.{AsmWhy}
 use Rattle.asm_forms.specs.declared.asm_why.AsmWhy.TheVariants.{UnknownLabel, OutOfReach, NoEntry, TooLarge}
 use Rattle.rv_assembler.specs.declared.assembling.TheConstants.{MAX_SOURCE}
@@ -102,12 +102,12 @@ reached o = cond (operation_fits o) (Ok o) (Err OutOfReach)
 
 -- the place behind a line; the first pass lets none beyond 2 ^ 32
 abbrev pub moved : Extent → ℕ → ℕ
-moved (Jumps p) place = p
-moved Marks place = place
+moved (OrgExtent p) place = p
+moved EntryExtent place = place
 moved (Takes n) place = (place + n) % 2 ^ 32
 
 abbrev pub entry_by : Operation → ℕ → ℕ
-entry_by (Enters e) entry = e
+entry_by (EntryOperation e) entry = e
 entry_by _ entry = entry
 
 abbrev pub with_operation : Task → Built → Operation → Built

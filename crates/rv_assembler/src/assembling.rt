@@ -1,7 +1,7 @@
 // From a source to an image.
-ghost use Rattle.std.specs.Prelude.{◌≡◌, ◌≤◌, ◌+◌, ◌^◌, ◌<◌, length, IfOk};
+ghost use Rattle.std.specs.Prelude.{◌≡◌, ◌≤◌, ◌+◌, ◌^◌, ◌<◌, length, IfOk, Ok};
 ghost use Rattle.rv_assembler.specs.Lines.{lines_of, without_return};
-ghost use Rattle.rv_assembler.specs.Source.{at_line, first_line, second_line, pass, assembled};
+ghost use Rattle.rv_assembler.specs.Source.{Program, at_line, first_line, second_line, pass, assembled};
 ghost use Rattle.rv_assembler.specs.Answers.{BecomesAt, Gives};
 ghost use Rattle.rv_assembler.specs.Relation.{IsSource};
 
@@ -94,10 +94,9 @@ fn second_pass(source: &[u8], symbols: &Symbols, building: &mut Building) -> Res
     Ok(())
 }
 
-/// Assembles a source: its image and its labels, or the first refusal with its line. Lines count from 1; at line 0
-/// the source is too long, or no line names the entry.
+// Measures the source, and passes over its lines twice.
 #[tactic(auto, using(std::proofs::lemmas::Bool::Decides::nat_tests), unfolding(crate::specs::Source::assembled))]
-pub fn assemble(alloc: Global, source: &[u8]) -> Result<Assembled, AsmError>
+fn assembled_in(alloc: Global, source: &[u8]) -> Result<Assembled, AsmError>
     ensures answer { Gives result (assembled source.now) }
     ensures source { IfOk result (λ a. IsSource source.now (record { image = a.image; symbols = a.symbols })) }
 {
@@ -122,4 +121,16 @@ pub fn assemble(alloc: Global, source: &[u8]) -> Result<Assembled, AsmError>
         Ok(image) => Ok(Assembled { image, symbols }),
         Err(_) => Err(AsmError::Memory),
     }
+}
+
+/// Assembles a source: its image and its labels, or the first refusal with its line. Lines count from 1; at line 0
+/// the source is too long, or no line names the entry.
+pub fn assemble(alloc: Global, source: &[u8]) -> Result<Assembled, AsmError>
+    ensures answer { Gives result (assembled source.now) }
+    // What is answered is the program of the source.
+    ensures source { IfOk result (λ a. IsSource source.now (record { image = a.image; symbols = a.symbols })) }
+    // The program of the source is what is answered, unless memory was wanting.
+    ensures only { (p : Program) → IsSource source.now p → Gives result (Ok p) }
+{
+    assembled_in(alloc, source)
 }

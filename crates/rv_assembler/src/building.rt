@@ -71,8 +71,8 @@ fn moved(extent: Extent, place: u32) -> u32
     ensures { result ≡ moved extent place }
 {
     match extent {
-        Extent::Jumps(to) => to,
-        Extent::Marks => place,
+        Extent::Org(to) => to,
+        Extent::Entry => place,
         Extent::Takes(count) => place.wrapping_add(count),
     }
 }
@@ -81,8 +81,8 @@ fn entry_by(operation: &Operation, entry: u32) -> u32
     ensures { result ≡ entry_by operation.now entry }
 {
     match operation {
-        Operation::Enters(address) => *address,
-        Operation::Moves(_) | Operation::PutsByte(_) | Operation::PutsHalf(_) => entry,
+        Operation::Entry(address) => *address,
+        Operation::Org(_) | Operation::PutsByte(_) | Operation::PutsHalf(_) => entry,
         Operation::PutsWord(_) | Operation::PutsZeros(_) | Operation::Long(_) => entry,
         Operation::Twice(_, _) | Operation::Compressed(_) => entry,
     }

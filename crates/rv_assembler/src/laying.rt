@@ -62,7 +62,7 @@ impl Laying {
         ensures { Becomes result self.new (laid extent self.old) }
     {
         match extent {
-            Extent::Jumps(to) => {
+            Extent::Org(to) => {
                 if let Some(s) = self.growing {
                     self.closed.push(s)?;
                 }
@@ -70,7 +70,7 @@ impl Laying {
                 self.place = to;
                 Ok(())
             }
-            Extent::Marks => {
+            Extent::Entry => {
                 if self.entered {
                     return Err(Stop::Refused(AsmWhy::BadOperands));
                 }

@@ -1,5 +1,5 @@
 -- Operands that are printed are read again.
-use Rattle.std.proofs.Common.{◌≡◌, ℕ, zero, suc, ◌+◌, ◌-◌, ◌*◌, ◌/◌, ◌%◌, ◌^◌, ◌<◌, ◌≤◌, List, [], ◌∷◌, ◌++◌, length, Option, Some, None, Bool, true, false, cond, refl, sym, ap, subst, ◌∙◌, arith, lit<}
+use Rattle.std.proofs.Common.{◌≡◌, ℕ, zero, suc, ◌+◌, ◌-◌, ◌*◌, ◌/◌, ◌%◌, ◌^◌, ◌<◌, ◌≤◌, List, [], ◌∷◌, ◌++◌, length, Option, Some, None, option_and_then, Bool, true, false, cond, refl, sym, ap, subst, ◌∙◌, arith, lit<}
 use Rattle.std.specs.Prelude.{nat_lt, nat_le, ◌&&◌, ◌==◌, ℤ, pos, negsuc, ◌-ℤ◌, nat_abs}
 use Rattle.std.specs.List.{flat_map}
 use Rattle.std.proofs.lemmas.Bool.{and_parts, and_from, cond-true, cond-false, ltb-true, ltb-false, lt-ltb, leb-true, or_right, agree_below, agree_below_at}
@@ -13,7 +13,7 @@ use Rattle.asm_text.specs.declared.token_kind.TokenKind.{TokenKind}
 use Rattle.asm_text.specs.declared.token_kind.TokenKind.TheVariants.{Name, Number, Comma, Colon, Open, Close}
 use Rattle.asm_text.proofs.NameLaws.{register_again, csr_again, is_number, meant}
 use Rattle.asm_forms.specs.Operands.{Operands, Given, Near}
-use Rattle.asm_forms.specs.Fields.{set_of, signed_word, with_rd, with_rs1, with_rs2, with_csr, with_amount, with_number, as_given, as_upper, as_near, read_field, read_items, is_marked, option_then, set_in}
+use Rattle.asm_forms.specs.Fields.{set_of, signed_word, with_rd, with_rs1, with_rs2, with_csr, with_amount, with_number, as_given, as_upper, as_near, read_field, read_items, is_marked, set_in}
 use Rattle.asm_forms.specs.declared.field.Field.{Field}
 use Rattle.asm_forms.specs.declared.field.Field.TheVariants.{Rd, Rs1, Rs2, Csr, Source, Pred, Succ, Signed, Below, Digits, Upper, Amount, Word as AnyWord, Label, Address, Target}
 use Rattle.asm_forms.specs.declared.item.Item.{Item}
@@ -229,7 +229,7 @@ reads_items (Operand f ∷ is) v p o h =
     let t = three (field_fits f v) (starts_with_mark is) (items_fit is v) h in
     let here = reads_field f v p t.0 in
     ap (λ ws. read_items (Operand f ∷ is) (ws ++ words_of_items is v p) o) here.words
-    ∙ ap (λ r. option_then r (read_items is (words_of_items is v p))) (here.reads o)
+    ∙ ap (λ r. option_and_then (read_items is (words_of_items is v p)) r) (here.reads o)
     ∙ reads_items is v p (given_field f v p o) t.2
 reads_items (Mark k ∷ is) v p o h = let t = and_parts (is_mark k) _ h in marked k t.0 (reads_items is v p o t.1)
   where

@@ -16,7 +16,7 @@ use Rattle.rv_assembler.specs.Source.{◌>>=◌, at_line, pass, Refusal, Passed,
 use Rattle.asm_forms.specs.declared.asm_why.AsmWhy.{AsmWhy}
 use Rattle.asm_forms.specs.declared.operation.Operation.{Operation}
 use Rattle.asm_forms.specs.declared.extent.Extent.{Extent}
-use Rattle.asm_forms.specs.declared.extent.Extent.TheVariants.{Jumps, Marks, Takes}
+use Rattle.asm_forms.specs.declared.extent.Extent.TheVariants.{Org as OrgExtent, Entry as EntryExtent, Takes}
 use Rattle.rv_disasm.specs.Fitting.{statement_fits}
 use Rattle.rv_disasm.specs.Printing.{line_pieces}
 use Rattle.rv_disasm.specs.Listing.{behind, lines_from}
@@ -84,8 +84,8 @@ second_empty symbols b = refl
 -- ---- where an extent leads
 
 abbrev pub place_by : Extent → ℕ → ℕ
-place_by (Jumps v) p = v
-place_by Marks p = p
+place_by (OrgExtent v) p = v
+place_by EntryExtent p = p
 place_by (Takes n) p = p + n
 
 refused_or : {A E : Type 0} (b : Bool) (d : E) (r : Result A E) (x : A) → cond b (Err d) r ≡ Ok x → (b ≡ false) × (r ≡ Ok x)
@@ -94,8 +94,8 @@ refused_or false d r x e = (refl, e)
 
 laid_place : (x : Extent) (l t : Laid) → laid x l ≡ Ok t → t.place ≡ place_by x l.place
 unfolding laid
-laid_place (Jumps v) l t e = let same : record { place = v; growing = None; closed = shut l.growing l.closed; entered = l.entered } ≡ t = cc in sym (ap (λ (k : Laid). k.place) same)
-laid_place Marks l t e =
+laid_place (OrgExtent v) l t e = let same : record { place = v; growing = None; closed = shut l.growing l.closed; entered = l.entered } ≡ t = cc in sym (ap (λ (k : Laid). k.place) same)
+laid_place EntryExtent l t e =
     let k = refused_or l.entered _ _ t e in
     let same : record { place = l.place; growing = l.growing; closed = l.closed; entered = true } ≡ t = let f = k.1 in cc in sym (ap (λ (k : Laid). k.place) same)
 laid_place (Takes n) l t e =
@@ -115,8 +115,8 @@ place_behind (Long i) p = refl
 place_behind (Short c) p = refl
 
 moved_small : (x : Extent) (p : ℕ) → place_by x p < 2 ^ 32 → moved x p ≡ place_by x p
-moved_small (Jumps v) p h = refl
-moved_small Marks p h = refl
+moved_small (OrgExtent v) p h = refl
+moved_small EntryExtent p h = refl
 moved_small (Takes n) p h = omega arith
 
 -- ---- all lines

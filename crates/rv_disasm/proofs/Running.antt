@@ -41,9 +41,6 @@ StandBeside older (s ∷ ss) =
 
 -- ---- numbers
 
-holds_by : Bool → Bool → Bool
-holds_by rom ram = rom || ram
-
 in_either : (rom ram : Bool) (at : ℕ) → is_in_memory (place_by rom ram at) ≡ (rom || ram)
 in_either true ram at = refl
 in_either false true at = refl
@@ -64,12 +61,6 @@ end_small base n h = grind (arith, nat_tests)
 
 pub holds_small : (base n : ℕ) → holds base n ≡ true → base + n < 2 ^ 32
 holds_small base n h = end_small base n (sym (holds_is base n) ∙ h)
-
-size_small : (base n : ℕ) → (is_in_rom base n || is_in_ram base n) ≡ true → n ≤ 65536
-size_small base n h = grind (arith, nat_tests)
-
-pub holds_size : (base n : ℕ) → holds base n ≡ true → n ≤ 65536
-holds_size base n h = size_small base n (sym (holds_is base n) ∙ h)
 
 apart_part : (base n m : ℕ) (s : Stretch) → are_apart (record { base = base; size = n }) s ≡ true → m ≤ n → are_apart (record { base = base; size = m }) s ≡ true
 apart_part base n m s h k = grind (arith, nat_tests)

@@ -19,9 +19,9 @@ use Rattle.asm_forms.specs.declared.item.Item.{Item}
 use Rattle.asm_forms.specs.declared.item.Item.TheVariants.{Operand, Mark}
 use Rattle.asm_forms.specs.declared.kind.Kind.{Kind}
 use Rattle.asm_forms.specs.declared.operation.Operation.{Operation}
-use Rattle.asm_forms.specs.declared.operation.Operation.TheVariants.{Moves, Enters, PutsByte, PutsHalf, PutsWord, Long as LongOperation, Compressed}
+use Rattle.asm_forms.specs.declared.operation.Operation.TheVariants.{Org as OrgOperation, Entry as EntryOperation, PutsByte, PutsHalf, PutsWord, Long as LongOperation, Compressed}
 use Rattle.asm_forms.specs.declared.extent.Extent.{Extent}
-use Rattle.asm_forms.specs.declared.extent.Extent.TheVariants.{Jumps, Marks, Takes}
+use Rattle.asm_forms.specs.declared.extent.Extent.TheVariants.{Org as OrgExtent, Entry as EntryExtent, Takes}
 use Rattle.rv_disasm.specs.Shown.{kind_of, values_of, row_for, row_of}
 use Rattle.rv_disasm.specs.Printing.{operands_pieces, row_pieces, line_pieces}
 use Rattle.rv_disasm.specs.Fitting.{field_fits, starts_with_mark, items_fit, statement_fits, room_for}
@@ -35,8 +35,8 @@ use Rattle.rv_disasm.proofs.Halves.{half}
 
 -- what the line does, as the assembler says it
 abbrev pub operation_for : Statement → Operation
-operation_for (Entry e) = Enters e
-operation_for (Org p) = Moves p
+operation_for (Entry e) = EntryOperation e
+operation_for (Org p) = OrgOperation p
 operation_for (Byte b) = PutsByte b
 operation_for (Half h) = PutsHalf h
 operation_for (WordStatement w) = PutsWord w
@@ -44,8 +44,8 @@ operation_for (Long i) = LongOperation i
 operation_for (Short c) = Compressed c
 
 abbrev pub extent_for : Statement → Extent
-extent_for (Entry e) = Marks
-extent_for (Org p) = Jumps p
+extent_for (Entry e) = EntryExtent
+extent_for (Org p) = OrgExtent p
 extent_for (Byte b) = Takes 1
 extent_for (Half h) = Takes 2
 extent_for (WordStatement w) = Takes 4

@@ -22,9 +22,9 @@ use Rattle.asm_forms.specs.declared.item.Item.{Item}
 use Rattle.asm_forms.specs.declared.kind.Kind.{Kind}
 use Rattle.asm_forms.specs.declared.kind.Kind.TheVariants.{Org as OrgKind, Entry as EntryKind, Byte as ByteKind, Half as HalfKind, Word as WordKind, Lui as LuiKind, Auipc as AuipcKind, Jal as JalKind, Jalr as JalrKind, Branch as BranchKind, Load as LoadKind, Store as StoreKind, Imm as ImmKind, Reg as RegKind, Fence as FenceKind, Csr as CsrKind, Fixed as FixedKind}
 use Rattle.asm_forms.specs.declared.operation.Operation.{Operation}
-use Rattle.asm_forms.specs.declared.operation.Operation.TheVariants.{Moves, Enters, PutsByte, PutsHalf, PutsWord, Long}
+use Rattle.asm_forms.specs.declared.operation.Operation.TheVariants.{Org as OrgOperation, Entry as EntryOperation, PutsByte, PutsHalf, PutsWord, Long}
 use Rattle.asm_forms.specs.declared.extent.Extent.{Extent}
-use Rattle.asm_forms.specs.declared.extent.Extent.TheVariants.{Jumps, Marks, Takes}
+use Rattle.asm_forms.specs.declared.extent.Extent.TheVariants.{Org as OrgExtent, Entry as EntryExtent, Takes}
 use Rattle.rv_disasm.specs.Shown.{values}
 use Rattle.rv_disasm.specs.Fitting.{is_word, is_near_zero, items_fit}
 use Rattle.rv_disasm.specs.declared.values.Values.{Values}
@@ -48,9 +48,6 @@ pub record Makes (p : ℕ) (items : List Item) (kind : Kind) (v : Values) (op : 
 pub near_by_12 : (imm : ℕ) → is_signed imm 12 ≡ true → is_near_zero 2048 imm ≡ true
 near_by_12 imm h = grind (arith, nat_tests)
 
-pub upper_word : (imm : ℕ) → is_upper imm ≡ true → (is_word imm && (imm % 4096 == 0)) ≡ true
-upper_word imm h = h
-
 pub upper_back : (imm : ℕ) → is_upper imm ≡ true → imm / 4096 * 4096 ≡ imm
 upper_back imm h = let t = and_parts (nat_lt imm (2 ^ 32)) _ h in let e = eqb-true (imm % 2 ^ 12) 0 t.1 in omega arith
 
@@ -65,11 +62,11 @@ offset_21 offset h = grind (arith, nat_tests)
 
 -- ---- directives
 
-pub makes_entry : (e p : ℕ) → is_word e ≡ true → Makes p address EntryKind (values 0 0 0 0 e) (Enters e) Marks
+pub makes_entry : (e p : ℕ) → is_word e ≡ true → Makes p address EntryKind (values 0 0 0 0 e) (EntryOperation e) EntryExtent
 unfolding made extent_of operation_fits resolved
 makes_entry e p h = record { fit = simp h; extent = refl; first = refl; number = e; resolved = λ s. refl; made = refl; fits = refl }
 
-pub makes_org : (a p : ℕ) → is_word a ≡ true → Makes p amount OrgKind (values 0 0 0 0 a) (Moves a) (Jumps a)
+pub makes_org : (a p : ℕ) → is_word a ≡ true → Makes p amount OrgKind (values 0 0 0 0 a) (OrgOperation a) (OrgExtent a)
 unfolding made extent_of operation_fits resolved
 makes_org a p h = record { fit = simp h; extent = refl; first = refl; number = 0; resolved = λ s. refl; made = refl; fits = refl }
 

@@ -144,6 +144,6 @@ pub(crate) fn put_statement(line: &mut Line, statement: &Statement, place: u32)
 {
     let values = values_of(statement);
     let form = form_for(kind_of(statement), values.number);
-    line.put_text(form.0);
-    put_operands(line, form.1, &values, place);
+    line.put_text(form.name);
+    put_operands(line, form.items, &values, place);
 }

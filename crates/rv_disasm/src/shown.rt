@@ -114,7 +114,7 @@ fn has_place(items: &[Item], number: u32) -> bool
 fn prints(form: &Form, kind: Kind, number: u32) -> bool
     ensures { result ≡ prints (row_of form.now) kind number }
 {
-    form.2 == kind && has_place(form.1, number)
+    form.kind == kind && has_place(form.items, number)
 }
 
 fn form_in(table: &[Form], kind: Kind, number: u32) -> Option<Form>
@@ -135,6 +135,10 @@ pub(crate) fn form_for(kind: Kind, number: u32) -> Form
 {
     match form_in(all_forms(), kind, number) {
         Some(form) => form,
-        None => Form("", &[], Kind::Org),
+        None => Form {
+            name: "",
+            items: &[],
+            kind: Kind::Org,
+        },
     }
 }

@@ -1,13 +1,8 @@
-use Rattle.std.proofs.Common.{sym, arith}
-use Rattle.rv_assembler.specs.Lines.{lines_of}
-use Rattle.rv_assembler.proofs.Keeping.{passes_cut}
-use Rattle.rv_assembler.proofs.Made.{passes_made}
+use Rattle.std.proofs.Common.{subst, Result, Ok}
+use Rattle.rv_assembler.specs.Source.{Program, Refusal}
+use Rattle.rv_assembler.specs.Answers.{Gives}
+use Rattle.rv_assembler.proofs.Made.{source_made}
 use Rattle.rv_assembler.proofs.assembling.assemble.Goals as goal
 
-pub image_of-requires : goal.image_of-requires
-image_of-requires c = passes_cut (lines_of c.args.source.now) _ _ _ _ c.second_pass.new.building c.new-laying.ensures c.new-building.ensures c.in_ok-first_pass.ensures c.in_ok-second_pass.ensures
-
-pub returns-in-Ok-clause-source : goal.returns-in-Ok-clause-source
-returns-in-Ok-clause-source c =
-    passes_made c.args.source.now c.new-laying.result c.new-symbols.result c.new-building.result (record { laying = c.first_pass.new.laying; symbols = c.first_pass.new.symbols }) c.second_pass.new.building c.in-Ok.image
-    c.new-laying.ensures c.new-symbols.ensures c.new-building.ensures (omega (arith, c.if-source-gt-MAX_SOURCE.false)) c.in_ok-first_pass.ensures c.in_ok-second_pass.ensures (sym c.if-not-is_entered.ensures) c.in-Ok.ensures
+pub returns-clause-only : goal.returns-clause-only
+returns-clause-only c = λ p is. subst (λ (told : Result Program Refusal). Gives c.assembled_in.result told) (source_made c.args.source.now p is) c.assembled_in.ensures.answer
