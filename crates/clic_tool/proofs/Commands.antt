@@ -2,7 +2,9 @@
 use Rattle.std.proofs.Common.{◌≡◌, refl, sym, subst}
 use Rattle.clap.specs.Words.{App}
 use Rattle.tool_frame.specs.Options.{IsPlainApp}
-use Rattle.clic_tool.specs.Order.{run_app, assemble_app, disassemble_app}
+use Rattle.clic_tool.specs.Run.{run_app}
+use Rattle.clic_tool.specs.Assemble.{assemble_app}
+use Rattle.clic_tool.specs.Disassemble.{disassemble_app}
 
 pub run_plain : IsPlainApp run_app
 run_plain = record { simple = refl; simple_and_free = refl; alone = refl; defaults = refl; rules = refl }

@@ -1,6 +1,6 @@
-mod Fronts
-mod Plans
 mod RunEnds
-mod Causes
+mod Plans
+mod RunCauses
 mod Labels
 mod Commands
+mod InShape

@@ -1,77 +1,58 @@
 -- What the frame asks of a plan holds of each command's.
-use Rattle.std.proofs.Common.{◌≡◌, ◌∙◌, ℕ, List, Option, Some, None, Result, Ok, Err, take, refl, sym, ap, subst}
-use Rattle.hart_memory.specs.Image.{ImageView}
-use Rattle.hart_board.specs.declared.event.Event.{Event}
-use Rattle.hart_board.specs.declared.run_end.RunEnd.{RunEnd}
-use Rattle.hart_board.specs.declared.run_end.RunEnd.TheVariants.{SinkFailed as sink_failed}
-use Rattle.rv_assembler.specs.Source.{Program}
-use Rattle.tool_frame.specs.Plan.{Plan, Makes, go_on}
-use Rattle.tool_frame.specs.declared.status.Status.TheVariants.{Usage}
-use Rattle.tool_frame.proofs.Held.{IsByFronts}
-use Rattle.tool_frame.proofs.Causes.{is_end, AllEnd, NoUsage, BeginsWell}
+use Rattle.std.proofs.Common.{◌≡◌, Option, Some, None, codes, refl}
+use Rattle.tool_frame.specs.Due.{Due}
+use Rattle.tool_frame.specs.Plan.{Makes}
+use Rattle.tool_frame.specs.Code.{OfCommand, origin_of}
+use Rattle.tool_frame.specs.declared.status.Status.{Status}
+use Rattle.tool_frame.specs.declared.status.Status.TheVariants.{Done}
+use Rattle.tool_frame.proofs.Fits.{Fits, IsAtOnce, IsOfCommand, fits_more, fits_reads}
+use Rattle.tool_frame.proofs.Causes.{BeginsWell}
+use Rattle.rv_assembler.specs.declared.assembling.TheConstants.{MAX_SOURCE}
+use Rattle.hart_board.specs.Run.{every_step}
+use Rattle.hart_board.proofs.Ending.{never_sink_failed}
 use Rattle.clic_tool.specs.Shipped.{shipped_meanings}
-use Rattle.clic_tool.specs.Order.{RunWords, AssembleWords, Order, Runs, Assembles, Disassembles}
-use Rattle.clic_tool.specs.Lines.{refusal_line}
-use Rattle.clic_tool.specs.Stages.{image_stage, scenario_stage, source_stage}
-use Rattle.clic_tool.specs.Due.{run_due, run_made, status_of, plan_of, scenario_plan, program_due, listing_due}
-use Rattle.clic_tool.specs.declared.refusal.Refusal.{Refusal}
-use Rattle.clic_tool.proofs.Fronts.{same_image, same_scenario, same_source}
-use Rattle.clic_tool.proofs.RunEnds.{never_sink_failed, end_is_end, end_is_no_usage}
+use Rattle.clic_tool.specs.Files.{image_limit, image_read, scenario_limit, scenario_read, source_read}
+use Rattle.clic_tool.specs.Run.{RunWords, run_due, run_made, run_plan, scenario_plan}
+use Rattle.clic_tool.specs.Assemble.{AssembleWords, program_due, assemble_plan}
+use Rattle.clic_tool.specs.Disassemble.{DisassembleWords, listing_due, disassemble_plan}
+use Rattle.clic_tool.specs.Order.{Order, Runs, Assembles, Disassembles, plan_of}
+use Rattle.clic_tool.proofs.RunEnds.{IsWorkStatus, end_is_work}
 
--- ---- fronts
+pub run_fits : (run : RunWords) → Fits (IsAtOnce IsWorkStatus) (run_plan run)
+run_fits run =
+    fits_reads (IsAtOnce IsWorkStatus) (codes "image") image_limit image_read run.image_name (scenario_plan run) (λ image.
+    fits_reads (IsAtOnce IsWorkStatus) (codes "scenario") scenario_limit scenario_read run.scenario_name (λ events. Makes (run_due run image events) tt) (λ events.
+    record { status = end_is_work (run_made image events run.bound_is).end (never_sink_failed shipped_meanings every_step events.list run.bound_is _); at_once = refl }))
 
-fronts_on : {A E : Type 0} (line : E → List ℕ) (read : Result A E) (next : A → Plan) → ((x : A) → IsByFronts (next x)) → IsByFronts (go_on line read next)
-fronts_on line (Ok x) next all = all x
-fronts_on line (Err e) next all = tt
+-- an assembly that was made is done, and so is a disassembly
+pub assemble_fits : (words : AssembleWords) → Fits (IsAtOnce (λ s. s ≡ Done)) (assemble_plan words)
+assemble_fits words =
+    fits_reads (IsAtOnce (λ s. s ≡ Done)) (codes "source") MAX_SOURCE source_read words.source_name (λ a. Makes (program_due words a) tt) (λ a. record { status = refl; at_once = refl })
 
--- of a stage that a file's limit and one byte more tell
-front_on : {A E : Type 0} (line : E → List ℕ) (stage : List ℕ → Result A E) (next : A → Plan) (n : ℕ) → ((content : List ℕ) → stage (take n content) ≡ stage content) → (content : List ℕ) → go_on line (stage (take n content)) next ≡ go_on line (stage content) next
-front_on {A} {E} line stage next n same content = ap (λ (r : Result A E). go_on line r next) (same content)
+pub disassemble_fits : (words : DisassembleWords) → Fits (IsAtOnce (λ s. s ≡ Done)) (disassemble_plan words)
+disassemble_fits words =
+    fits_reads (IsAtOnce (λ s. s ≡ Done)) (codes "image") image_limit image_read words.image_name (λ image. Makes (listing_due image) tt) (λ image. record { status = refl; at_once = refl })
 
-scenario_fronts : (run : RunWords) (image : ImageView) → IsByFronts (scenario_plan run image)
-scenario_fronts run image =
-    (front_on refusal_line scenario_stage (λ events. Makes (run_due run image events)) 4194305 same_scenario, λ bytes. fronts_on refusal_line (scenario_stage bytes) (λ events. Makes (run_due run image events)) (λ events. tt))
+-- ---- any words
 
-pub plan_fronts : (order : Option Order) → IsByFronts (plan_of order)
-plan_fronts None = tt
-plan_fronts (Some (Runs run)) =
-    (front_on refusal_line image_stage (scenario_plan run) 262145 same_image, λ bytes. fronts_on refusal_line (image_stage bytes) (scenario_plan run) (scenario_fronts run))
-plan_fronts (Some (Assembles words)) =
-    (front_on refusal_line source_stage (λ program. Makes (program_due words program)) 2097153 same_source, λ bytes. fronts_on refusal_line (source_stage bytes) (λ program. Makes (program_due words program)) (λ program. tt))
-plan_fronts (Some (Disassembles words)) =
-    (front_on refusal_line image_stage (λ image. Makes (listing_due image)) 262145 same_image, λ bytes. fronts_on refusal_line (image_stage bytes) (λ image. Makes (listing_due image)) (λ image. tt))
+done_is_work : (s : Status) → s ≡ Done → IsWorkStatus s
+done_is_work s e = record { own = rw e refl; no_usage = λ c. cc }
 
--- ---- statuses
+done_works : (due : Due) → IsAtOnce (λ s. s ≡ Done) due → IsAtOnce IsWorkStatus due
+done_works due done = record { status = done_is_work due.status done.status; at_once = done.at_once }
 
-pub run_status : (run : RunWords) (image : ImageView) (events : List Event) → (run_due run image events).status ≡ status_of (run_made image events run.bound_is).end
-unfolding run_due
-run_status run image events = refl
+pub order_fits : (order : Order) → Fits (IsAtOnce IsWorkStatus) (plan_of (Some order))
+order_fits (Runs run) = run_fits run
+order_fits (Assembles words) = fits_more (IsAtOnce (λ s. s ≡ Done)) (IsAtOnce IsWorkStatus) done_works (assemble_plan words) (assemble_fits words)
+order_fits (Disassembles words) = fits_more (IsAtOnce (λ s. s ≡ Done)) (IsAtOnce IsWorkStatus) done_works (disassemble_plan words) (disassemble_fits words)
 
-run_ends : (run : RunWords) (image : ImageView) (events : List Event) → is_end (run_due run image events).status
-run_ends run image events =
-    subst is_end (sym (run_status run image events)) (end_is_end (run_made image events run.bound_is).end (never_sink_failed shipped_meanings events run.bound_is _))
+pub plan_fits : (order : Option Order) → Fits (IsAtOnce (λ s. origin_of s ≡ OfCommand)) (plan_of order)
+plan_fits None = record { status = refl; at_once = refl }
+plan_fits (Some order) =
+    fits_more (IsAtOnce IsWorkStatus) (IsAtOnce (λ s. origin_of s ≡ OfCommand)) (λ due work. record { status = work.status.own; at_once = work.at_once }) (plan_of (Some order)) (order_fits order)
 
-ends_on : {A E : Type 0} (line : E → List ℕ) (read : Result A E) (next : A → Plan) → ((x : A) → AllEnd (next x)) → AllEnd (go_on line read next)
-ends_on line (Ok x) next all = all x
-ends_on line (Err e) next all = tt
-
-pub plan_ends : (order : Option Order) → AllEnd (plan_of order)
-plan_ends None = tt
-plan_ends (Some (Runs run)) = λ bytes. ends_on refusal_line (image_stage bytes) (scenario_plan run) (λ image. λ later. ends_on refusal_line (scenario_stage later) (λ events. Makes (run_due run image events)) (λ events. run_ends run image events))
-plan_ends (Some (Assembles words)) = λ bytes. ends_on refusal_line (source_stage bytes) (λ program. Makes (program_due words program)) (λ program. tt)
-plan_ends (Some (Disassembles words)) = λ bytes. ends_on refusal_line (image_stage bytes) (λ image. Makes (listing_due image)) (λ image. tt)
-
-run_no_usage : (run : RunWords) (image : ImageView) (events : List Event) → (run_due run image events).status ≡ Usage → ⊥
-run_no_usage run image events e = end_is_no_usage (run_made image events run.bound_is).end (sym (run_status run image events) ∙ e)
-
-no_usage_on : {A E : Type 0} (line : E → List ℕ) (read : Result A E) (next : A → Plan) → ((x : A) → NoUsage (next x)) → NoUsage (go_on line read next)
-no_usage_on line (Ok x) next all = all x
-no_usage_on line (Err e) next all = tt
-
-pub plan_no_usage : (order : Order) → NoUsage (plan_of (Some order))
-plan_no_usage (Runs run) = λ bytes. no_usage_on refusal_line (image_stage bytes) (scenario_plan run) (λ image. λ later. no_usage_on refusal_line (scenario_stage later) (λ events. Makes (run_due run image events)) (λ events. run_no_usage run image events))
-plan_no_usage (Assembles words) = λ bytes. no_usage_on refusal_line (source_stage bytes) (λ program. Makes (program_due words program)) (λ program. λ c. cc)
-plan_no_usage (Disassembles words) = λ bytes. no_usage_on refusal_line (image_stage bytes) (λ image. Makes (listing_due image)) (λ image. λ c. cc)
+pub plan_own : (order : Option Order) → Fits IsOfCommand (plan_of order)
+plan_own order = fits_more (IsAtOnce (λ s. origin_of s ≡ OfCommand)) IsOfCommand (λ due all. all.status) (plan_of order) (plan_fits order)
 
 pub plan_begins : (order : Option Order) → BeginsWell (plan_of order)
 plan_begins None = tt

@@ -1,7 +1,7 @@
-pub mod Order
-pub mod View
-pub mod Lines
+pub mod Files
 pub mod Shipped
-pub mod Stages
-pub mod Due
-pub mod Causes
+pub mod Run
+pub mod Assemble
+pub mod Disassemble
+pub mod Order
+pub mod RunCauses

@@ -1,53 +1,14 @@
--- What the words of a command say.
-use Rattle.std.specs.Prelude.{ℕ, List, [], Bool, Option, None, codes, if◌then◌else◌, unwrap_or, option_map}
-use Rattle.clap.specs.Words.{App, Row, Text, first_of, one_of, new_app, with_rule}
-use Rattle.tool_frame.specs.Options.{text_rule, number_rule, flag_rule, number_in, is_flag_on, taken, starts_with}
-
--- `run`: two files, a number from 0 to 1,000,000,000, and a flag
-abbrev pub run_app : App
-run_app = with_rule (with_rule (with_rule (with_rule (new_app (codes "run")) (text_rule (codes "IMAGE"))) (text_rule (codes "SCENARIO"))) (number_rule (codes "BOUND") 1_000_000_000)) (flag_rule (codes "trace"))
-
--- `asm`: a file, and a flag
-abbrev pub assemble_app : App
-assemble_app = with_rule (with_rule (new_app (codes "asm")) (text_rule (codes "SOURCE"))) (flag_rule (codes "symbols"))
-
--- `disasm`: a file
-abbrev pub disassemble_app : App
-disassemble_app = with_rule (new_app (codes "disasm")) (text_rule (codes "IMAGE"))
-
--- the files, the bound, and whether a trace is wanted
-pub record RunWords : Type 0 where
-  pub image_name : Text
-  pub scenario_name : Text
-  pub bound_is : ℕ
-  pub traces : Bool
-
--- the file, and whether its labels are wanted in place of its image
-pub record AssembleWords : Type 0 where
-  pub source_name : Text
-  pub wants_symbols : Bool
-
--- the file
-pub record DisassembleWords : Type 0 where
-  pub image_name : Text
-
--- what clap finds in the words. Each is there where clap takes them
-unfoldable pub run_in : List Row → RunWords
-run_in rows = record {
-  image_name = unwrap_or (first_of (codes "IMAGE") rows) [];
-  scenario_name = unwrap_or (first_of (codes "SCENARIO") rows) [];
-  bound_is = unwrap_or (number_in (one_of (codes "BOUND") rows)) 0;
-  traces = is_flag_on (one_of (codes "trace") rows);
-}
-
-unfoldable pub assemble_in : List Row → AssembleWords
-assemble_in rows = record {
-  source_name = unwrap_or (first_of (codes "SOURCE") rows) [];
-  wants_symbols = is_flag_on (one_of (codes "symbols") rows);
-}
-
-unfoldable pub disassemble_in : List Row → DisassembleWords
-disassemble_in rows = record { image_name = unwrap_or (first_of (codes "IMAGE") rows) [] }
+-- What the words ask for, and what is done of it.
+use Rattle.std.specs.Prelude.{List, Option, Some, None, codes, if◌then◌else◌, option_map}
+use Rattle.clap.specs.Words.{Text}
+use Rattle.tool_frame.specs.Options.{taken, starts_with}
+use Rattle.tool_frame.specs.Due.{usage_due}
+use Rattle.tool_frame.specs.Plan.{Plan, Makes}
+use Rattle.clic_tool.specs.Run.{RunWords, run_app, run_in, view_run, run_plan}
+use Rattle.clic_tool.specs.Assemble.{AssembleWords, assemble_app, assemble_in, view_assemble, assemble_plan}
+use Rattle.clic_tool.specs.Disassemble.{DisassembleWords, disassemble_app, disassemble_in, view_disassemble, disassemble_plan}
+use Rattle.clic_tool.specs.declared.order.Order.{Order as Asked}
+use Rattle.clic_tool.specs.declared.order.Order.TheVariants.{Run, Assemble, Disassemble}
 
 pub data Order : Type 0 where
   Runs : RunWords → Order
@@ -61,3 +22,15 @@ order_of words =
     else (if starts_with (codes "asm") words then option_map Assembles (taken assemble_app assemble_in words)
     else (if starts_with (codes "disasm") words then option_map Disassembles (taken disassemble_app disassemble_in words)
     else None))
+
+-- an order, without where its names lie
+abbrev pub view : Asked → Order
+view (Run r) = Runs (view_run r)
+view (Assemble a) = Assembles (view_assemble a)
+view (Disassemble d) = Disassembles (view_disassemble d)
+
+abbrev pub plan_of : Option Order → Plan (Unit {0})
+plan_of None = Makes usage_due tt
+plan_of (Some (Runs run)) = run_plan run
+plan_of (Some (Assembles words)) = assemble_plan words
+plan_of (Some (Disassembles words)) = disassemble_plan words

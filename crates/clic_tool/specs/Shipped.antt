@@ -8,6 +8,7 @@ use Rattle.board_devices.specs.Gpio.{gpio}
 use Rattle.board_devices.specs.Ticker.{ticker}
 use Rattle.board_devices.specs.Halter.{halter}
 use Rattle.board_devices.specs.Shipped.{shipped_state}
+use Rattle.clic_regs.specs.Shape.{ClicShape}
 use Rattle.hart_board.specs.State.{State, reset}
 use Rattle.hart_board.specs.Outside.{reset_outside}
 
@@ -15,6 +16,6 @@ use Rattle.hart_board.specs.Outside.{reset_outside}
 unfoldable pub shipped_meanings : Meanings
 shipped_meanings = side_by_side (moved_up (word_device uart)) (side_by_side (moved_up (word_device gpio)) (side_by_side (moved_up (word_device ticker)) (moved_up (word_device halter))))
 
--- the board at reset
-unfoldable pub shipped_board : State
-shipped_board = reset (reset_outside shipped_meanings shipped_state)
+-- the board at reset, with a controller of a shape
+unfoldable pub shipped_board : ClicShape → State
+shipped_board shape = reset (reset_outside shipped_meanings shape shipped_state)

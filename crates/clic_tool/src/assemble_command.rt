@@ -2,33 +2,26 @@
 ghost use Rattle.std.specs.Prelude.{◌≡◌, IfOk, option_map};
 ghost use Rattle.clap.specs.Words.{app_of, found_of, rows_of};
 ghost use Rattle.tool_frame.specs.Options.{taken};
-ghost use Rattle.clic_tool.specs.Order.{assemble_app, assemble_in};
-ghost use Rattle.clic_tool.specs.View.{view_assemble};
+ghost use Rattle.clic_tool.specs.Assemble.{assemble_app, assemble_in, view_assemble};
 
 use crate::assemble_order::AssembleOrder;
 use board_outside::Word;
-use clap::{Arg, ArgAction, ArgMatches, Command};
+use clap::{ArgMatches, Command};
 use hart_words::WantOfMemory;
 use std::alloc::{AllocError, Global};
-use tool_frame::{is_given, matches_taken, text_given};
+use tool_frame::{flag_argument, is_given, matches_taken, text_argument, text_given};
 
 // The command `asm`: a source's name, and a flag.
 fn assemble_command<'a>(alloc: Global) -> Result<Command<'a>, AllocError>
     ensures { IfOk result (λ command. app_of command ≡ assemble_app) }
 {
-    let source = Arg::new(alloc, "SOURCE")
-        .required(true)
-        .action(ArgAction::Set);
-    let symbols = Arg::new(alloc, "symbols")
-        .long("symbols")
-        .action(ArgAction::SetTrue);
-    let with_source = Command::new(alloc, "asm").arg(source)?;
-    let with_symbols = with_source.arg(symbols)?;
+    let with_source = Command::new(alloc, "asm").arg(text_argument(alloc, "SOURCE"))?;
+    let with_symbols = with_source.arg(flag_argument(alloc, "symbols"))?;
     Ok(with_symbols)
 }
 
 // The assembly that the matches say.
-#[tactic(auto, unfolding(crate::specs::Order::assemble_in))]
+#[tactic(auto, unfolding(crate::specs::Assemble::assemble_in))]
 fn assemble_order<'a>(matches: &ArgMatches<'a>) -> AssembleOrder<'a>
     ensures { view_assemble result ≡ assemble_in (rows_of (found_of matches.now)) }
 {

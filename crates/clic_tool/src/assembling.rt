@@ -1,21 +1,20 @@
 // What is written of an assembled source.
 ghost use Rattle.std.specs.Prelude.{◌≡◌, ◌++◌, false, IfOk, OnOk};
 ghost use Rattle.rv_assembler.specs.Symbols.{Symbol};
-ghost use Rattle.tool_frame.specs.Answers.{EndsOrWants};
-ghost use Rattle.clic_tool.specs.Due.{symbol_line, symbols_text, program_text, program_due};
-ghost use Rattle.clic_tool.specs.Stages.{program_in};
-ghost use Rattle.clic_tool.specs.View.{view_assemble};
+ghost use Rattle.tool_frame.specs.Answers.{EndsOrWants, Follows, status_in};
+ghost use Rattle.clic_tool.specs.Assemble.{symbol_line, symbols_text, program_text, program_due, assemble_plan, view_assemble};
 
 use crate::assemble_order::AssembleOrder;
+use crate::source_file::SourceFile;
 use board_inputs::write_image;
-use board_outside::Sink;
+use board_outside::{Shelf, Sink};
 use hart_words::{Line, Text, WantOfMemory};
 use rv_assembler::{Assembled, Symbols};
 use std::alloc::Global;
-use tool_frame::{Status, ended};
+use tool_frame::{Status, ended, read_file};
 
 // Adds the line of a label. Its name may be longer than a `Line`.
-#[tactic(auto, unfolding(crate::specs::Due::symbol_line))]
+#[tactic(auto, unfolding(crate::specs::Assemble::symbol_line))]
 fn put_symbol(text: &mut Text, name: &str, address: u32) -> Result<(), WantOfMemory>
     ensures { OnOk result (text.new ≡ text.old ++ symbol_line (record { name = name.now; address = address })) }
 {
@@ -39,7 +38,7 @@ fn text_of_symbols(alloc: Global, symbols: &Symbols) -> Result<Text, WantOfMemor
 }
 
 fn text_of_image(alloc: Global, assembled: &Assembled) -> Result<Text, WantOfMemory>
-    ensures { IfOk result (λ text. text ≡ program_text false (program_in assembled.now)) }
+    ensures { IfOk result (λ text. text ≡ program_text false assembled.now) }
 {
     write_image(alloc, &assembled.image)
 }
@@ -50,7 +49,7 @@ fn text_of_program(
     symbols: bool,
     assembled: &Assembled,
 ) -> Result<Text, WantOfMemory>
-    ensures { IfOk result (λ text. text ≡ program_text symbols (program_in assembled.now)) }
+    ensures { IfOk result (λ text. text ≡ program_text symbols assembled.now) }
 {
     if symbols {
         text_of_symbols(alloc, &assembled.symbols)
@@ -59,17 +58,30 @@ fn text_of_program(
     }
 }
 
-/// Writes the image of an assembled source, or its labels, as the words say.
-pub fn write_program<W: Sink>(
+// Writes the image of an assembled source, or its labels, as the words say.
+fn write_program<W: Sink>(
     alloc: Global,
     order: &AssembleOrder<'_>,
     assembled: &Assembled,
     out: &mut W,
 ) -> Status
-    ensures { EndsOrWants result (W.told out.old) (W.told out.new) (program_due (view_assemble order.now) (program_in assembled.now)) }
+    ensures { EndsOrWants result (W.told out.old) (W.told out.new) (program_due (view_assemble order.now) assembled.now) }
 {
     match text_of_program(alloc, order.symbols, assembled) {
         Ok(text) => ended(out.put(text.bytes()), Status::Done),
         Err(_) => Status::Memory,
     }
+}
+
+/// Reads the source and assembles it.
+pub fn assemble_file<F: Shelf, W: Sink>(
+    alloc: Global,
+    order: &AssembleOrder<'_>,
+    shelf: &mut F,
+    out: &mut W,
+) -> Result<Status, Status>
+    ensures { Follows (status_in result) (assemble_plan (view_assemble order.now)) (F.told shelf.old) (F.told shelf.new) (W.told out.old) (W.told out.new) }
+{
+    let assembled = read_file::<SourceFile, F, W>(alloc, order.source, shelf, out)?;
+    Ok(write_program(alloc, order, &assembled, out))
 }

@@ -1,5 +1,5 @@
-use crate::interrupt_tests::PREEMPTS;
 use board_devices::{AllDevices, shipped};
+use clic_regs::Shape;
 use counter_device::{CountingDevices, counting_devices};
 use device_model::{Device, Stimulus};
 use hart_board::{Board, Stepped, What};
@@ -7,9 +7,18 @@ use std::alloc::Global;
 use std::process::Abort;
 use std::test::Fail;
 
+// Sets sp, mtvec to 0x40, mtvt to 0x100 and nlbits to 2, makes five inputs positive edge and enabled,
+// sets MIE in its 23rd instruction, and halts after two nops; a return.
+const PREEMPTS: [u32; 28] = [
+    0x20010137, 0x04000293, 0x30529073, 0x10000293, 0x30729073, 0x02000337, 0x00400293, 0x00530023,
+    0x02001337, 0x400202B7, 0x10028293, 0x00532623, 0x00532A23, 0xC00202B7, 0x10028293, 0x00532E23,
+    0x000202B7, 0x10028293, 0x02532223, 0x800202B7, 0x10028293, 0x02532623, 0x30046073, 0x00000013,
+    0x00000013, 0x100032B7, 0x0002A023, 0x00008067,
+];
+
 /// The shipped board at reset.
 pub fn new_board(alloc: Global) -> Result<Board<AllDevices>, Fail> {
-    Ok(Board::new(alloc, shipped(alloc)?)?)
+    Ok(Board::new(alloc, shipped(alloc)?, Shape::plain())?)
 }
 
 /// Places words from an address on.
@@ -172,7 +181,7 @@ fn counts<D: Device>(rt: &impl Abort, board: &mut Board<D>) {
 pub fn counting_board(rt: &impl Abort, alloc: Global) -> Result<Board<CountingDevices>, Fail> {
     let devices = counting_devices(alloc)?;
     assert!(rt; devices.high() <= 0x1_0000 && devices.line_count() <= 8);
-    Ok(Board::new(alloc, devices)?)
+    Ok(Board::new(alloc, devices, Shape::plain())?)
 }
 
 #[test]

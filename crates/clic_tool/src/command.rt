@@ -3,127 +3,32 @@ ghost use Rattle.std.specs.Prelude.{◌≡◌, ℕ, ◌<◌, true, [], None, Som
 ghost use Rattle.board_outside.specs.Counts.{Rose};
 ghost use Rattle.board_outside.specs.Sink.{Writes};
 ghost use Rattle.hart_board.specs.declared.run_end.RunEnd.TheVariants.{Halted, BudgetSpent, VectorFault};
-ghost use Rattle.tool_frame.specs.Due.{refused_due};
-ghost use Rattle.tool_frame.specs.Plan.{due_of};
-ghost use Rattle.tool_frame.specs.Answers.{Ends, Follows, Misuses, IsCalm, HasDone, IsReady, Succeeds};
+ghost use Rattle.tool_frame.specs.Plan.{due_of, HoldsAll};
+ghost use Rattle.tool_frame.specs.Answers.{Follows, Misuses, IsCalm, HasDone, IsReady, Succeeds};
 ghost use Rattle.tool_frame.specs.Causes.{NoneRose, AtFile, IsAbsentFile, IsFailedFile, IsRefusedFile, StopsShort};
-ghost use Rattle.clic_tool.specs.Order.{RunWords, Runs, order_of};
-ghost use Rattle.clic_tool.specs.View.{view, view_run, view_assemble, view_disassemble};
-ghost use Rattle.clic_tool.specs.Lines.{refusal_line};
-ghost use Rattle.clic_tool.specs.Due.{plan_of, run_plan, scenario_plan, assemble_plan, disassemble_plan};
-ghost use Rattle.clic_tool.specs.Causes.{RanTo};
+ghost use Rattle.clic_tool.specs.Run.{RunWords};
+ghost use Rattle.clic_tool.specs.Order.{Runs, order_of, view, plan_of};
+ghost use Rattle.clic_tool.specs.RunCauses.{RanTo};
 
-use crate::assemble_order::AssembleOrder;
-use crate::assembling::write_program;
-use crate::disassemble_order::DisassembleOrder;
-use crate::disassembling::write_listing;
+use crate::assembling::assemble_file;
+use crate::disassembling::disassemble_file;
 use crate::order::Order;
 use crate::order_reading::read_order;
-use crate::refusal::Refusal;
-use crate::run_order::RunOrder;
-use crate::running::run_image;
-use crate::stages::{
-    IMAGE_LIMIT, SCENARIO_LIMIT, SOURCE_LIMIT, checked_events, checked_image, checked_source,
-};
-use crate::stop::Stop;
-use crate::writing::put_refusal;
+use crate::running::run_files;
 use board_outside::{Shelf, Sink, Words};
-use hart_memory::Image;
 use std::alloc::Global;
-use tool_frame::{Status, end_fault, end_usage, ended};
-
-// Tells that a file is refused.
-fn end_refusal<W: Sink>(refusal: Refusal, out: &mut W) -> Status
-    ensures { Ends result (W.told out.old) (W.told out.new) (refused_due (refusal_line refusal)) }
-{
-    ended(put_refusal(refusal, out), Status::Refused)
-}
-
-// Fetches the scenario, and runs the image with it.
-fn run_scenario<F: Shelf, W: Sink>(
-    alloc: Global,
-    order: &RunOrder<'_>,
-    image: &Image,
-    shelf: &mut F,
-    out: &mut W,
-) -> Status
-    ensures { Follows result (scenario_plan (view_run order.now) image.now) (F.told shelf.old) (F.told shelf.new) (W.told out.old) (W.told out.new) }
-{
-    match shelf.fetch(alloc, order.scenario, SCENARIO_LIMIT) {
-        Ok(bytes) => match checked_events(alloc, &bytes) {
-            Ok(events) => run_image(alloc, order, image, &events, out),
-            Err(Stop::Refused(refusal)) => end_refusal(refusal, out),
-            Err(Stop::Memory) => Status::Memory,
-        },
-        Err(fault) => end_fault(fault, order.scenario, out),
-    }
-}
-
-// Fetches the image and then the scenario, and runs.
-fn run_files<F: Shelf, W: Sink>(
-    alloc: Global,
-    order: &RunOrder<'_>,
-    shelf: &mut F,
-    out: &mut W,
-) -> Status
-    ensures { Follows result (run_plan (view_run order.now)) (F.told shelf.old) (F.told shelf.new) (W.told out.old) (W.told out.new) }
-{
-    match shelf.fetch(alloc, order.image, IMAGE_LIMIT) {
-        Ok(bytes) => match checked_image(alloc, &bytes) {
-            Ok(image) => run_scenario(alloc, order, &image, shelf, out),
-            Err(Stop::Refused(refusal)) => end_refusal(refusal, out),
-            Err(Stop::Memory) => Status::Memory,
-        },
-        Err(fault) => end_fault(fault, order.image, out),
-    }
-}
-
-// Fetches the source and assembles it.
-fn assemble_file<F: Shelf, W: Sink>(
-    alloc: Global,
-    order: &AssembleOrder<'_>,
-    shelf: &mut F,
-    out: &mut W,
-) -> Status
-    ensures { Follows result (assemble_plan (view_assemble order.now)) (F.told shelf.old) (F.told shelf.new) (W.told out.old) (W.told out.new) }
-{
-    match shelf.fetch(alloc, order.source, SOURCE_LIMIT) {
-        Ok(bytes) => match checked_source(alloc, &bytes) {
-            Ok(assembled) => write_program(alloc, order, &assembled, out),
-            Err(Stop::Refused(refusal)) => end_refusal(refusal, out),
-            Err(Stop::Memory) => Status::Memory,
-        },
-        Err(fault) => end_fault(fault, order.source, out),
-    }
-}
-
-// Fetches the image and lists it.
-fn disassemble_file<F: Shelf, W: Sink>(
-    alloc: Global,
-    disassembly: &DisassembleOrder<'_>,
-    shelf: &mut F,
-    out: &mut W,
-) -> Status
-    ensures { Follows result (disassemble_plan (view_disassemble disassembly.now)) (F.told shelf.old) (F.told shelf.new) (W.told out.old) (W.told out.new) }
-{
-    match shelf.fetch(alloc, disassembly.image, IMAGE_LIMIT) {
-        Ok(bytes) => match checked_image(alloc, &bytes) {
-            Ok(image) => write_listing(alloc, &image, out),
-            Err(Stop::Refused(refusal)) => end_refusal(refusal, out),
-            Err(Stop::Memory) => Status::Memory,
-        },
-        Err(fault) => end_fault(fault, disassembly.image, out),
-    }
-}
+use tool_frame::{Status, end_usage, status_in};
 
 // Does what was asked for.
 fn follow<F: Shelf, W: Sink>(alloc: Global, order: &Order<'_>, shelf: &mut F, out: &mut W) -> Status
     ensures { Follows result (plan_of (Some (view order.now))) (F.told shelf.old) (F.told shelf.new) (W.told out.old) (W.told out.new) }
 {
     match order {
-        Order::Run(run) => run_files(alloc, run, shelf, out),
-        Order::Assemble(assembly) => assemble_file(alloc, assembly, shelf, out),
-        Order::Disassemble(disassembly) => disassemble_file(alloc, disassembly, shelf, out),
+        Order::Run(run) => status_in(run_files(alloc, run, shelf, out)),
+        Order::Assemble(assembly) => status_in(assemble_file(alloc, assembly, shelf, out)),
+        Order::Disassemble(disassembly) => {
+            status_in(disassemble_file(alloc, disassembly, shelf, out))
+        }
     }
 }
 
@@ -155,6 +60,10 @@ pub fn clic_main<F: Shelf, W: Sink>(
     // What is due by the files of a steady shelf, and fits the sink's room, is written whole, unless memory was wanting.
     ensures complete { (ready : IsReady (plan_of (order_of words.now)) (F.told shelf.old) (W.told out.old))
         → Succeeds (plan_of (order_of words.now)) (F.told shelf.old) (W.told out.old) (W.told out.new) ready result }
+
+    // Where the shelf holds all files that are asked for besides, no count rises.
+    ensures complete_counts { (ready : IsReady (plan_of (order_of words.now)) (F.told shelf.old) (W.told out.old))
+        → HoldsAll (plan_of (order_of words.now)) ready.files → NoneRose (F.told shelf.old) (F.told shelf.new) (W.told out.old) (W.told out.new) }
 
     // Each status comes only for its cause. Memory is free, and then nothing is written.
     ensures status_done { result ≡ Status.Done → NoneRose (F.told shelf.old) (F.told shelf.new) (W.told out.old) (W.told out.new) }

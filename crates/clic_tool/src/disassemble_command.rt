@@ -2,29 +2,25 @@
 ghost use Rattle.std.specs.Prelude.{◌≡◌, IfOk, option_map};
 ghost use Rattle.clap.specs.Words.{app_of, found_of, rows_of};
 ghost use Rattle.tool_frame.specs.Options.{taken};
-ghost use Rattle.clic_tool.specs.Order.{disassemble_app, disassemble_in};
-ghost use Rattle.clic_tool.specs.View.{view_disassemble};
+ghost use Rattle.clic_tool.specs.Disassemble.{disassemble_app, disassemble_in, view_disassemble};
 
 use crate::disassemble_order::DisassembleOrder;
 use board_outside::Word;
-use clap::{Arg, ArgAction, ArgMatches, Command};
+use clap::{ArgMatches, Command};
 use hart_words::WantOfMemory;
 use std::alloc::{AllocError, Global};
-use tool_frame::{matches_taken, text_given};
+use tool_frame::{matches_taken, text_argument, text_given};
 
 // The command `disasm`: an image's name.
 fn disassemble_command<'a>(alloc: Global) -> Result<Command<'a>, AllocError>
     ensures { IfOk result (λ command. app_of command ≡ disassemble_app) }
 {
-    let image = Arg::new(alloc, "IMAGE")
-        .required(true)
-        .action(ArgAction::Set);
-    let with_image = Command::new(alloc, "disasm").arg(image)?;
+    let with_image = Command::new(alloc, "disasm").arg(text_argument(alloc, "IMAGE"))?;
     Ok(with_image)
 }
 
 // The disassembly that the matches say.
-#[tactic(auto, unfolding(crate::specs::Order::disassemble_in))]
+#[tactic(auto, unfolding(crate::specs::Disassemble::disassemble_in))]
 fn disassemble_order<'a>(matches: &ArgMatches<'a>) -> DisassembleOrder<'a>
     ensures { view_disassemble result ≡ disassemble_in (rows_of (found_of matches.now)) }
 {

@@ -5,43 +5,33 @@ mod assemble_command;
 mod assemble_order;
 mod assembling;
 #[cfg(test)]
-mod assembling_tests;
-#[cfg(test)]
 mod board_tests;
 mod command;
 mod disassemble_command;
 mod disassemble_order;
 mod disassembling;
-#[cfg(test)]
-mod disassembling_tests;
-#[cfg(test)]
-mod interrupt_tests;
+mod image_file;
 mod order;
 mod order_reading;
-#[cfg(test)]
-mod order_tests;
-#[cfg(test)]
-mod program_tests;
-mod refusal;
-#[cfg(test)]
-mod refusal_tests;
 mod run_command;
 mod run_order;
 #[cfg(test)]
 mod run_tests;
 mod running;
+mod scenario_file;
+#[cfg(test)]
+mod shelf_tests;
 #[cfg(test)]
 mod sink_tests;
-mod stages;
-mod stop;
+mod source_file;
 #[cfg(test)]
 mod tests;
-mod writing;
 
 use board_outside::{FileShelf, StdSink, Words};
 use command::clic_main;
 use std::process::ExitCode;
 use std::{env, io};
+use tool_frame::Status;
 
 // The words find no memory.
 const WORDS_WANT_MEMORY: u8 = 7;
@@ -69,5 +59,8 @@ fn main(rt: HostRuntime) -> ExitCode {
     let mut shelf = FileShelf::new(&rt);
     let mut out = StdSink::new(&rt);
     let status = clic_main(rt.alloc(), &words, &mut shelf, &mut out);
-    ExitCode::from(status.code())
+    match out.finish() {
+        Ok(()) => ExitCode::from(status.code()),
+        Err(_) => ExitCode::from(Status::SinkFailed.code()),
+    }
 }

@@ -2,8 +2,7 @@
 ghost use Rattle.std.specs.Prelude.{◌≡◌, IfOk, option_map};
 ghost use Rattle.std.specs.Str.{bytes_eq};
 ghost use Rattle.tool_frame.specs.Options.{starts_with};
-ghost use Rattle.clic_tool.specs.Order.{order_of};
-ghost use Rattle.clic_tool.specs.View.{view};
+ghost use Rattle.clic_tool.specs.Order.{order_of, view};
 
 use crate::assemble_command::read_assemble;
 use crate::disassemble_command::read_disassemble;

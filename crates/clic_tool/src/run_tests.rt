@@ -1,6 +1,7 @@
 // Runs of boards: an event that halts, and a trace that breaks off.
 use crate::board_tests::{counting_board, new_board, place_words};
 use board_outside::MemorySink;
+use clic_regs::Shape;
 use device_model::{Device, Stimulus};
 use hart_board::{Board, Event, Events, RunEnd, What, run};
 use std::alloc::Global;
@@ -9,7 +10,7 @@ use std::test::Fail;
 
 // A byte comes after four steps, and the line of input 3 rises at the same count.
 fn two_events(alloc: Global) -> Result<Events, Fail> {
-    let mut events = Events::new(alloc);
+    let mut events = Events::new(alloc, Shape::plain());
     let byte = What::Device(Stimulus::Receive(7));
     events.push(Event { at: 4, what: byte })?;
     let line = What::Line {
@@ -64,7 +65,13 @@ fn breaks_off<D: Device>(
     let mut copied = board.copy(alloc)?;
     let mut out = MemorySink::new(alloc, 4096)?;
     out.fail_at(put)?;
-    let end = run(&mut copied, &Events::new(alloc), 100, true, &mut out);
+    let end = run(
+        &mut copied,
+        &Events::new(alloc, Shape::plain()),
+        100,
+        true,
+        &mut out,
+    );
     assert_eq!(rt; end, RunEnd::SinkFailed);
     assert_eq!(rt; out.bytes(), text);
     assert_eq!(rt; copied.pc(), 4 * steps.min(3));

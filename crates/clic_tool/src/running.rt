@@ -1,22 +1,24 @@
 // A run on the shipped board.
 ghost use Rattle.std.specs.Prelude.{◌≡◌, IfOk, IsTrue};
 ghost use Rattle.board_outside.specs.Sink.{Writes};
-ghost use Rattle.hart_board.specs.Run.{run_of, is_whole};
+ghost use Rattle.hart_board.specs.Run.{every_step, run_of, is_whole};
 ghost use Rattle.hart_board.specs.Text.{run_text};
 ghost use Rattle.clic_tool.specs.Shipped.{shipped_meanings, shipped_board};
-ghost use Rattle.clic_tool.specs.Due.{run_due, status_of};
-ghost use Rattle.clic_tool.specs.View.{view_run};
-ghost use Rattle.tool_frame.specs.Answers.{EndsOrWants};
+ghost use Rattle.clic_tool.specs.Run.{run_due, run_plan, status_of, view_run};
+ghost use Rattle.tool_frame.specs.Answers.{EndsOrWants, Follows, status_in};
 
+use crate::image_file::ImageFile;
 use crate::run_order::RunOrder;
+use crate::scenario_file::ScenarioFile;
 use board_devices::{AllDevices, shipped};
 use board_inputs::load_image;
-use board_outside::Sink;
+use board_outside::{Shelf, Sink};
+use clic_regs::Shape;
 use hart_board::{Board, Events, RunEnd, run};
 use hart_memory::Image;
 use hart_words::WantOfMemory;
 use std::alloc::Global;
-use tool_frame::Status;
+use tool_frame::{Status, read_file};
 
 fn status_of_end(end: &RunEnd) -> Status
     ensures { result ≡ status_of end.now }
@@ -29,13 +31,13 @@ fn status_of_end(end: &RunEnd) -> Status
     }
 }
 
-// The board with the shipped devices, at reset.
+// The board with the shipped devices, at reset, with a controller of a shape.
 #[tactic(auto, unfolding(crate::specs::Shipped::shipped_board, crate::specs::Shipped::shipped_meanings))]
-fn new_board(alloc: Global) -> Result<Board<AllDevices>, WantOfMemory>
-    ensures { IfOk result (λ board. board ≡ shipped_board) }
+fn new_board(alloc: Global, shape: Shape) -> Result<Board<AllDevices>, WantOfMemory>
+    ensures { IfOk result (λ board. board ≡ shipped_board shape) }
 {
     let devices = shipped(alloc)?;
-    Board::new(alloc, devices)
+    Board::new(alloc, devices, shape)
 }
 
 // Runs the board with the shipped devices.
@@ -47,14 +49,15 @@ fn run_shipped<W: Sink>(
     trace: bool,
     out: &mut W,
 ) -> RunEnd
-    ensures end { IsTrue (is_whole result) → result ≡ (run_of shipped_meanings events.now bound board.old).end }
-    ensures text { Writes (is_whole result) (W.told out.old) (W.told out.new) (run_text shipped_meanings trace bound (run_of shipped_meanings events.now bound board.old)) }
+    requires { events.now.shape ≡ board.old.outside.clic.shape }
+    ensures end { IsTrue (is_whole result) → result ≡ (run_of shipped_meanings every_step events.now.list bound board.old).end }
+    ensures text { Writes (is_whole result) (W.told out.old) (W.told out.new) (run_text shipped_meanings trace bound (run_of shipped_meanings every_step events.now.list bound board.old)) }
 {
     run(board, events, bound, trace, out)
 }
 
-/// Runs the image with the events, as the words say, on a board of its own.
-pub fn run_image<W: Sink>(
+// Runs the image with the events, as the words say, on a board of its own in their shape.
+fn run_image<W: Sink>(
     alloc: Global,
     order: &RunOrder<'_>,
     image: &Image,
@@ -63,11 +66,25 @@ pub fn run_image<W: Sink>(
 ) -> Status
     ensures { EndsOrWants result (W.told out.old) (W.told out.new) (run_due (view_run order.now) image.now events.now) }
 {
-    let mut board = match new_board(alloc) {
+    let mut board = match new_board(alloc, events.shape()) {
         Ok(board) => board,
         Err(_) => return Status::Memory,
     };
     load_image(image, &mut board);
     let end = run_shipped(&mut board, events, order.bound, order.trace, out);
     status_of_end(&end)
+}
+
+/// Reads the image and then the scenario, and runs.
+pub fn run_files<F: Shelf, W: Sink>(
+    alloc: Global,
+    order: &RunOrder<'_>,
+    shelf: &mut F,
+    out: &mut W,
+) -> Result<Status, Status>
+    ensures { Follows (status_in result) (run_plan (view_run order.now)) (F.told shelf.old) (F.told shelf.new) (W.told out.old) (W.told out.new) }
+{
+    let image = read_file::<ImageFile, F, W>(alloc, order.image, shelf, out)?;
+    let events = read_file::<ScenarioFile, F, W>(alloc, order.scenario, shelf, out)?;
+    Ok(run_image(alloc, order, &image, &events, out))
 }

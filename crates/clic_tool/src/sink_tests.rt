@@ -1,4 +1,4 @@
-use crate::tests::{Case, HALTS, REPORT, USAGE, answered, answers, given};
+use crate::tests::{Case, HALTS, NEVER, REPORT, USAGE, answered, answers, given, given_source};
 use std::alloc::Global;
 use std::process::Abort;
 use std::test::Fail;
@@ -114,4 +114,55 @@ fn the_room_of_a_refusal(rt: HostRuntime) -> Result<(), Fail> {
         ..given(&WORDS, &HALTS, b"")
     };
     answers(&rt, rt.alloc(), &absent, Status::SinkFailed, b"absent i.")
+}
+
+// addi a0, zero, 5 at 0, which is the entry.
+const FIVE: &[u8] = b".entry 0\naddi a0, zero, 5\n";
+
+// Its image.
+const FIVE_IMAGE: &[u8] = b"CLC1\0\0\0\0\x01\0\0\0\0\0\0\0\x04\0\0\0\x13\x05\x50\0";
+
+// An image is one put, and a front of it was written where the room is too small.
+#[test]
+fn the_put_of_an_image_fails(rt: HostRuntime) -> Result<(), Fail> {
+    let cases: [(u64, usize, Status, usize); 4] = [
+        (1, 65_536, Status::SinkFailed, 0),
+        (2, 65_536, Status::Done, 24),
+        (NEVER, 23, Status::SinkFailed, 23),
+        (NEVER, 24, Status::Done, 24),
+    ];
+    for (put, room, status, written) in cases {
+        let case = Case {
+            put,
+            room,
+            ..given_source(&["asm", "p.s"], FIVE)
+        };
+        let (ended, out) = answered(rt.alloc(), &case)?;
+        assert_eq!(rt; ended, status);
+        assert_eq!(rt; out.bytes().len(), written);
+        assert!(rt; FIVE_IMAGE.starts_with(out.bytes()));
+    }
+    Ok(())
+}
+
+// And so is a listing.
+#[test]
+fn the_put_of_a_listing_fails(rt: HostRuntime) -> Result<(), Fail> {
+    let words = ["disasm", "i.img"];
+    let failing = Case {
+        put: 1,
+        ..given(&words, &HALTS, b"")
+    };
+    answers(&rt, rt.alloc(), &failing, Status::SinkFailed, b"")?;
+    let small = Case {
+        room: 20,
+        ..given(&words, &HALTS, b"")
+    };
+    answers(
+        &rt,
+        rt.alloc(),
+        &small,
+        Status::SinkFailed,
+        b".entry 0x00000000\n.o",
+    )
 }

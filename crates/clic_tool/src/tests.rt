@@ -147,53 +147,6 @@ pub fn answers(
     Ok(())
 }
 
-fn has_line(text: &[u8], line: &[u8]) -> bool {
-    text.split(|byte| *byte == b'\n').any(|l| l == line)
-}
-
-/// It answers this status, its text begins so, and has these lines.
-pub fn tells(
-    rt: &impl Abort,
-    alloc: Global,
-    case: &Case,
-    status: Status,
-    front: &[u8],
-    lines: &[&[u8]],
-) -> Result<(), Fail> {
-    let (given, out) = answered(alloc, case)?;
-    assert_eq!(rt; given, status);
-    assert!(rt; out.bytes().starts_with(front));
-    for line in lines {
-        assert!(rt; has_line(out.bytes(), line));
-    }
-    Ok(())
-}
-
-fn push_word(bytes: &mut Vec<u8>, word: u32) -> Result<(), Fail> {
-    Ok(bytes.extend_from_slice(&word.to_le_bytes())?)
-}
-
-/// An image file with one segment.
-pub fn image_of(alloc: Global, entry: u32, at: u32, bytes: &[u8]) -> Result<Vec<u8>, Fail> {
-    let mut file = Vec::new(alloc);
-    file.extend_from_slice(b"CLC1")?;
-    push_word(&mut file, entry)?;
-    push_word(&mut file, 1)?;
-    push_word(&mut file, at)?;
-    push_word(&mut file, (bytes.len() % 0x1_0000) as u32)?;
-    file.extend_from_slice(bytes)?;
-    Ok(file)
-}
-
-/// An image file with these words in one segment at 0.
-pub fn image_of_words(alloc: Global, words: &[u32]) -> Result<Vec<u8>, Fail> {
-    let mut bytes = Vec::new(alloc);
-    for word in words {
-        push_word(&mut bytes, *word)?;
-    }
-    image_of(alloc, 0, 0, &bytes)
-}
-
 #[test]
 fn the_first_image_halts_with_five(rt: HostRuntime) -> Result<(), Fail> {
     let words = ["run", "i.img", "s.txt", "100"];
@@ -206,67 +159,34 @@ fn the_first_image_halts_with_five(rt: HostRuntime) -> Result<(), Fail> {
     )
 }
 
-#[test]
-fn a_trace_goes_before_the_report(rt: HostRuntime) -> Result<(), Fail> {
-    let words = ["run", "i.img", "s.txt", "100", "--trace"];
-    let (status, out) = answered(rt.alloc(), &given(&words, &HALTS, b""))?;
-    assert_eq!(rt; status, Status::Done);
-    let trace = b"i 00000000 00500513\ni 00000004 100032B7\ni 00000008 00A2A023\n";
-    assert_eq!(rt; out.bytes().strip_prefix(trace.as_slice()), Some(REPORT));
-    Ok(())
-}
-
-#[test]
-fn bounds_up_to_the_halt(rt: HostRuntime) -> Result<(), Fail> {
-    let cases: [(&str, Status, &[u8]); 4] = [
-        (
-            "0",
-            Status::BudgetSpent,
-            b"end budget\nsteps 0\npc 00000000\n",
-        ),
-        (
-            "2",
-            Status::BudgetSpent,
-            b"end budget\nsteps 2\npc 00000008\n",
-        ),
-        ("3", Status::Done, b"end halt 00000005\nsteps 3\n"),
-        ("+1000000000", Status::Done, b"end halt 00000005\nsteps 3\n"),
-    ];
-    for (bound, status, front) in cases {
-        let words = ["run", "i.img", "s.txt", bound];
-        tells(
-            &rt,
-            rt.alloc(),
-            &given(&words, &HALTS, b""),
-            status,
-            front,
-            &[],
-        )?;
-    }
-    Ok(())
-}
-
+// Words that clap refuses aren't answered as want of memory.
 #[test]
 fn words_that_are_no_command(rt: HostRuntime) -> Result<(), Fail> {
-    let cases: [&[&str]; 9] = [
-        &[],
-        &["fly"],
-        &["run"],
-        &["run", "i.img", "100"],
-        &["run", "i.img", "s.txt", "1000000001"],
-        &["chain", "i.img", "s.txt", "looping", "100"],
-        &["run", "--help"],
-        &["asm"],
-        &["asm", "p.s", "i.img"],
-    ];
-    for words in cases {
+    for words in [["run", "--help"], ["asm", "--trace"]] {
         answers(
             &rt,
             rt.alloc(),
-            &given(words, &HALTS, b""),
+            &given(&words, &HALTS, b""),
             Status::Usage,
             USAGE,
         )?;
     }
     Ok(())
+}
+
+// An event too many isn't answered as want of memory either.
+#[test]
+fn an_event_too_many(rt: HostRuntime) -> Result<(), Fail> {
+    let mut scenario = Vec::new(rt.alloc());
+    for _ in 0..65_537 {
+        scenario.extend_from_slice(b"0 rx 0\n")?;
+    }
+    let words = ["run", "i.img", "s.txt", "10"];
+    answers(
+        &rt,
+        rt.alloc(),
+        &given(&words, &HALTS, &scenario),
+        Status::Refused,
+        b"refused scenario TooMany 65537\n",
+    )
 }

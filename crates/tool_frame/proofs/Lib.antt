@@ -1,6 +1,7 @@
 mod NoFault
 mod Found
 pub mod Ends
+pub mod Fits
 pub mod Held
 pub mod Calm
 pub mod Complete

@@ -1,4 +1,4 @@
--- The exit status of the program.
+-- The exit status of the program, and what each status tells of.
 use Rattle.std.specs.Prelude.{ℕ}
 use Rattle.tool_frame.specs.declared.status.Status.{Status}
 use Rattle.tool_frame.specs.declared.status.Status.TheVariants.{Done, BudgetSpent, Usage, Absent, ShelfFailed, Refused, SinkFailed, Memory, VectorFault}
@@ -13,3 +13,21 @@ code_of Refused = 5
 code_of SinkFailed = 6
 code_of Memory = 7
 code_of VectorFault = 9
+
+-- the work or the words; a file; or what may fail at any place
+pub data Origin : Type 0 where
+  OfCommand : Origin
+  OfFile : Origin
+  OfSink : Origin
+  OfMemory : Origin
+
+abbrev pub origin_of : Status → Origin
+origin_of Done = OfCommand
+origin_of BudgetSpent = OfCommand
+origin_of Usage = OfCommand
+origin_of Absent = OfFile
+origin_of ShelfFailed = OfFile
+origin_of Refused = OfFile
+origin_of SinkFailed = OfSink
+origin_of Memory = OfMemory
+origin_of VectorFault = OfCommand

@@ -4,4 +4,5 @@ pub mod Options
 pub mod Due
 pub mod Plan
 pub mod Answers
+pub mod Files
 pub mod Causes

@@ -1,5 +1,5 @@
 -- Commands as clap is told of them, and what it finds in their words.
-use Rattle.std.specs.Prelude.{◌≡◌, ℕ, ◌^◌, List, [], ◌∷◌, Bool, true, false, ◌&&◌, Option, Some, None, codes, if◌then◌else◌, nat_lt, option_map}
+use Rattle.std.specs.Prelude.{◌≡◌, ℕ, ◌^◌, List, [], ◌∷◌, Bool, true, false, ◌&&◌, Option, Some, None, codes, if◌then◌else◌, nat_lt, option_map, option_and_then}
 use Rattle.std.specs.List.{list_all}
 use Rattle.std.specs.Option.{option_map_or}
 use Rattle.std.specs.Str.{bytes_eq}
@@ -16,9 +16,9 @@ use Rattle.clap.specs.declared.builder.value_parser.ValueParser.TheVariants as v
 abbrev pub text_rule : Text → Rule
 text_rule name = record (new_rule name) { required = true; action = Some Set }
 
--- a number from 0 to the greatest that has to be given
-abbrev pub number_rule : Text → ℕ → Rule
-number_rule name greatest = record (new_rule name) { required = true; action = Some Set; parser = Some (vp.Unsigned 0 greatest) }
+-- a number from the least to the greatest that has to be given
+abbrev pub number_rule : Text → ℕ → ℕ → Rule
+number_rule name least greatest = record (new_rule name) { required = true; action = Some Set; parser = Some (vp.Unsigned least greatest) }
 
 -- a flag with no value
 abbrev pub flag_rule : Text → Rule
@@ -51,6 +51,10 @@ rows_taken app words = if takes app words then Some (matches_of app words) else 
 -- what is read of it
 abbrev pub taken : {A : Type 0} → App → (List Row → A) → List Text → Option A
 taken app read words = option_map read (rows_taken app words)
+
+-- what is read of it by a reader that may refuse a word which clap takes
+abbrev pub taken_if : {A : Type 0} → App → (List Row → Option A) → List Text → Option A
+taken_if app read words = option_and_then read (rows_taken app words)
 
 -- the first word is this one
 abbrev pub starts_with : Text → List Text → Bool

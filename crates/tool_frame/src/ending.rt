@@ -1,7 +1,7 @@
 // How a command ends.
 ghost use Rattle.std.specs.Prelude.{◌≡◌, if◌then◌else◌, is_ok};
 ghost use Rattle.tool_frame.specs.Due.{fault_due, usage_due};
-ghost use Rattle.tool_frame.specs.Answers.{Ends};
+ghost use Rattle.tool_frame.specs.Answers.{Ends, status_in};
 
 use crate::status::Status;
 use crate::writing::{put_named, put_usage};
@@ -14,6 +14,16 @@ pub fn ended(written: Result<(), SinkFault>, status: Status) -> Status
     match written {
         Ok(()) => status,
         Err(_) => Status::SinkFailed,
+    }
+}
+
+/// The status of a command that did its work, or ended early.
+pub fn status_in(end: Result<Status, Status>) -> Status
+    ensures { result ≡ status_in end }
+{
+    match end {
+        Ok(status) => status,
+        Err(status) => status,
     }
 }
 

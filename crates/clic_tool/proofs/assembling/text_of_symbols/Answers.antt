@@ -1,6 +1,6 @@
 use Rattle.std.proofs.Common.{◌≡◌, ◌∷◌, ◌+◌, ◌∙◌, drop, append_assoc}
 use Rattle.rv_assembler.specs.Symbols.{Symbol}
-use Rattle.clic_tool.specs.Due.{symbol_line, symbols_text}
+use Rattle.clic_tool.specs.Assemble.{symbol_line, symbols_text}
 use Rattle.clic_tool.proofs.Labels.{next_label}
 use Rattle.clic_tool.proofs.assembling.text_of_symbols.Goals as goal
 

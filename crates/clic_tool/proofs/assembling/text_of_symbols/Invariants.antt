@@ -1,5 +1,5 @@
 use Rattle.std.proofs.Common.{◌≡◌, drop, ◌++◌}
-use Rattle.clic_tool.specs.Due.{symbols_text}
+use Rattle.clic_tool.specs.Assemble.{symbols_text}
 use Rattle.clic_tool.proofs.assembling.text_of_symbols.Given as goal
 
 -- the text so far and that of the labels that are left make the whole text

@@ -1,9 +1,7 @@
-use Rattle.std.proofs.Common.{◌≡◌, Option, Some, None, subst, sym, inl}
+use Rattle.std.proofs.Common.{◌≡◌, Option, Some, None, subst, inl}
 use Rattle.tool_frame.specs.Answers.{Follows}
 use Rattle.tool_frame.proofs.Ends.{lacks, makes}
-use Rattle.clic_tool.specs.Order.{Order, order_of}
-use Rattle.clic_tool.specs.View.{view}
-use Rattle.clic_tool.specs.Due.{plan_of}
+use Rattle.clic_tool.specs.Order.{Order, order_of, view, plan_of}
 use Rattle.clic_tool.proofs.command.answer.Goals as goal
 
 pub returns-in-Ok-Some : goal.returns-in-Ok-Some
@@ -17,4 +15,4 @@ returns-in-Ok-None g c =
     subst (λ (o : Option Order). Follows c.end_usage.result (plan_of o) (g.F.Shelf.told c.args.shelf.now) (g.F.Shelf.told c.args.shelf.now) (g.W.Sink.told c.args.out.now) (g.W.Sink.told c.end_usage.new.out)) told (makes _ (inl c.end_usage.ensures))
 
 pub returns-in-Err : goal.returns-in-Err
-returns-in-Err g c = lacks _ _ _
+returns-in-Err g c = lacks tt _ _ _

@@ -1,10 +1,16 @@
-use Rattle.std.proofs.Common.{inl}
-use Rattle.clic_tool.specs.Due.{run_due}
-use Rattle.clic_tool.proofs.RunEnds.{run_ends}
+use Rattle.std.proofs.Common.{inl, sym, ap, ◌∙◌}
+use Rattle.hart_board.specs.State.{State}
+use Rattle.clic_tool.specs.Run.{view_run}
+use Rattle.clic_tool.proofs.InShape.{shipped_shape}
+use Rattle.clic_tool.proofs.RunEnds.{image_runs}
 use Rattle.clic_tool.proofs.running.run_image.Goals as goal
 
+-- loading an image leaves the shape, which is that of the events
+pub run_shipped-end-requires : goal.run_shipped-end-requires
+run_shipped-end-requires g c =
+    sym (ap (λ (s : State). s.outside.clic.shape) c.load_image.ensures.loads.rest ∙ ap (λ (s : State). s.outside.clic.shape) c.in-Ok.ensures ∙ shipped_shape c.shape.result ∙ c.shape.ensures)
+
 pub returns : goal.returns
-unfolding run_due
 returns g c =
-    rw (← c.in-Ok.ensures, ← c.load_image.ensures.exact)
-    (inl (run_ends c.run_shipped-end.result _ _ c.status_of_end.ensures c.run_shipped-end.ensures.end c.run_shipped-end.ensures.text))
+    inl (image_runs (view_run c.args.order.now) c.args.image.now c.args.events.now c.shape.result c.in-Ok.board c.load_image.new.board c.run_shipped-end.result
+    c.shape.ensures c.in-Ok.ensures c.load_image.ensures.exact c.status_of_end.ensures c.run_shipped-end.ensures.end c.run_shipped-end.ensures.text)

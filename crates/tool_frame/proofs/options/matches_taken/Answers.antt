@@ -1,4 +1,4 @@
-use Rattle.std.proofs.Common.{◌∙◌, sym, ap, ap₂}
+use Rattle.std.proofs.Common.{◌∙◌, sym, ap}
 use Rattle.clap.specs.Words.{app_of, found_of, rows_of, fault_of, matches_of, takes}
 use Rattle.tool_frame.proofs.Found.{map_same, rows_found, rows_refused}
 use denote.Enum.Bare.{same_false}

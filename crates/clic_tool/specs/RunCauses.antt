@@ -1,16 +1,16 @@
 -- Where a run ended.
-use Rattle.std.specs.Prelude.{◌≡◌, List, Option, Some}
+use Rattle.std.specs.Prelude.{◌≡◌, Option, Some}
 use Rattle.board_outside.specs.Shelf.{ShelfView}
 use Rattle.hart_memory.specs.Image.{ImageView}
-use Rattle.hart_board.specs.declared.event.Event.{Event}
+use Rattle.hart_board.specs.Event.{EventList}
 use Rattle.hart_board.specs.declared.run_end.RunEnd.{RunEnd}
 use Rattle.tool_frame.specs.Answers.{Passes}
-use Rattle.clic_tool.specs.Order.{RunWords, Order, Runs}
-use Rattle.clic_tool.specs.Stages.{image_limit, image_stage, scenario_limit, scenario_stage}
-use Rattle.clic_tool.specs.Due.{run_made}
+use Rattle.clic_tool.specs.Files.{image_limit, image_stage, scenario_limit, scenario_stage}
+use Rattle.clic_tool.specs.Run.{RunWords, run_made}
+use Rattle.clic_tool.specs.Order.{Order, Runs}
 
 -- both files were given and passed, one after the other
-pub record PassesFiles (run : RunWords) (shelf shelf' : ShelfView) (image : ImageView) (events : List Event) : Type 0 where
+pub record PassesFiles (run : RunWords) (shelf shelf' : ShelfView) (image : ImageView) (events : EventList) : Type 0 where
   pub between : ShelfView
   pub image_passed : Passes run.image_name image_limit image_stage shelf between image
   pub scenario_passed : Passes run.scenario_name scenario_limit scenario_stage between shelf' events
@@ -20,6 +20,6 @@ pub record RanTo (ended : RunEnd → Type 0) (order : Option Order) (shelf shelf
   pub run : RunWords
   pub is_run : order ≡ Some (Runs run)
   pub image : ImageView
-  pub events : List Event
+  pub events : EventList
   pub files : PassesFiles run shelf shelf' image events
   pub end : ended (run_made image events run.bound_is).end

@@ -1,0 +1,92 @@
+-- The kinds of files: their limits, what their bytes give, and the lines of their refusals.
+use Rattle.std.specs.Prelude.{ℕ, List, Result, Ok, Err, codes}
+use Rattle.hart_memory.specs.Image.{ImageView}
+use Rattle.hart_board.specs.Event.{EventList}
+use Rattle.board_inputs.specs.ImageReading.{Fault as ImageFault, image_of}
+use Rattle.board_inputs.specs.ScenarioReading.{Fault as ScenarioFault, scenario_of}
+use Rattle.board_inputs.specs.declared.image_why.ImageWhy.{ImageWhy}
+use Rattle.board_inputs.specs.declared.image_why.ImageWhy.TheVariants.{BadMagic, Truncated, OutsideMemory, Overlap, TooMany, Trailing}
+use Rattle.board_inputs.specs.declared.scenario_why.ScenarioWhy.{ScenarioWhy}
+use Rattle.board_inputs.specs.declared.scenario_why.ScenarioWhy.TheVariants.{BadLine, OutOfOrder, TooMany as TooManyEvents}
+use Rattle.asm_forms.specs.declared.asm_why.AsmWhy.{AsmWhy}
+use Rattle.asm_forms.specs.declared.asm_why.AsmWhy.TheVariants.{Lex, UnknownMnemonic, BadOperands, UnknownLabel, DoubleLabel, OutOfReach, OutsideMemory as SourceOutsideMemory, Overlap as SourceOverlap, NoEntry, TooLarge}
+use Rattle.rv_assembler.specs.Source.{Program, Refusal as SourceFault, assembled}
+use Rattle.rv_assembler.specs.declared.assembled.Assembled.{Assembled}
+use Rattle.rv_assembler.specs.declared.assembling.TheConstants.{MAX_SOURCE}
+use Rattle.tool_frame.specs.Lines.{refused_line}
+use Rattle.tool_frame.specs.Plan.{measured}
+
+-- ---- an image
+
+-- an image file has at most so many bytes
+abbrev pub image_limit : ℕ
+image_limit = 262_144
+
+-- what is wrong with an image, by name
+abbrev pub image_why : ImageWhy → List ℕ
+image_why BadMagic = codes "BadMagic"
+image_why Truncated = codes "Truncated"
+image_why OutsideMemory = codes "OutsideMemory"
+image_why Overlap = codes "Overlap"
+image_why TooMany = codes "TooMany"
+image_why Trailing = codes "Trailing"
+
+abbrev pub image_or_line : Result ImageView ImageFault → Result ImageView (List ℕ)
+image_or_line (Ok image) = Ok image
+image_or_line (Err fault) = Err (refused_line (codes "image") (image_why fault.why) fault.place)
+
+-- the image of a file, or the line of its refusal
+unfoldable pub image_read : List ℕ → Result ImageView (List ℕ)
+image_read bytes = image_or_line (image_of bytes)
+
+abbrev pub image_stage : List ℕ → Result ImageView (List ℕ)
+image_stage bytes = measured (codes "image") image_limit image_read bytes
+
+-- ---- a scenario
+
+-- a scenario file has at most so many bytes
+abbrev pub scenario_limit : ℕ
+scenario_limit = 4_194_304
+
+-- what is wrong with a scenario, by name
+abbrev pub scenario_why : ScenarioWhy → List ℕ
+scenario_why BadLine = codes "BadLine"
+scenario_why OutOfOrder = codes "OutOfOrder"
+scenario_why TooManyEvents = codes "TooMany"
+
+abbrev pub events_or_line : Result EventList ScenarioFault → Result EventList (List ℕ)
+events_or_line (Ok events) = Ok events
+events_or_line (Err fault) = Err (refused_line (codes "scenario") (scenario_why fault.why) fault.line)
+
+-- the events of a file and the shape of the boards that they are for, or the line of its refusal
+unfoldable pub scenario_read : List ℕ → Result EventList (List ℕ)
+scenario_read bytes = events_or_line (scenario_of bytes)
+
+abbrev pub scenario_stage : List ℕ → Result EventList (List ℕ)
+scenario_stage bytes = measured (codes "scenario") scenario_limit scenario_read bytes
+
+-- ---- a source
+
+-- what is wrong with a source, by name: of a token that can't be read, the place in its line isn't told
+abbrev pub source_why : AsmWhy → List ℕ
+source_why (Lex fault) = codes "Lex"
+source_why UnknownMnemonic = codes "UnknownMnemonic"
+source_why BadOperands = codes "BadOperands"
+source_why UnknownLabel = codes "UnknownLabel"
+source_why DoubleLabel = codes "DoubleLabel"
+source_why OutOfReach = codes "OutOfReach"
+source_why SourceOutsideMemory = codes "OutsideMemory"
+source_why SourceOverlap = codes "Overlap"
+source_why NoEntry = codes "NoEntry"
+source_why TooLarge = codes "TooLarge"
+
+abbrev pub assembled_or_line : Result Program SourceFault → Result Assembled (List ℕ)
+assembled_or_line (Ok program) = Ok (record { image = program.image; symbols = program.symbols })
+assembled_or_line (Err fault) = Err (refused_line (codes "source") (source_why fault.why) fault.line)
+
+-- the image of a source with its labels, or the line of its refusal
+unfoldable pub source_read : List ℕ → Result Assembled (List ℕ)
+source_read bytes = assembled_or_line (assembled bytes)
+
+abbrev pub source_stage : List ℕ → Result Assembled (List ℕ)
+source_stage bytes = measured (codes "source") MAX_SOURCE source_read bytes

@@ -1,0 +1,68 @@
+-- The command `run`: its words, and what it does with its files.
+use Rattle.std.specs.Prelude.{ℕ, List, [], Bool, codes, unwrap_or}
+use Rattle.clap.specs.Words.{App, Row, Text, first_of, one_of, new_app, with_rule}
+use Rattle.hart_memory.specs.Image.{ImageView}
+use Rattle.hart_board.specs.Event.{EventList}
+use Rattle.hart_board.specs.Run.{Ran, every_step, run_of}
+use Rattle.hart_board.specs.Text.{run_text}
+use Rattle.hart_board.specs.declared.run_end.RunEnd.{RunEnd}
+use Rattle.hart_board.specs.declared.run_end.RunEnd.TheVariants.{Halted, BudgetSpent as budget_spent, VectorFault as vector_fault, SinkFailed as sink_failed}
+use Rattle.board_inputs.specs.ImageLoading.{loaded}
+use Rattle.tool_frame.specs.Options.{text_rule, number_rule, flag_rule, number_in, is_flag_on}
+use Rattle.tool_frame.specs.Due.{Due, at_once}
+use Rattle.tool_frame.specs.Plan.{Plan, Makes, reads}
+use Rattle.tool_frame.specs.declared.status.Status.{Status}
+use Rattle.tool_frame.specs.declared.status.Status.TheVariants.{Done, BudgetSpent, SinkFailed, VectorFault}
+use Rattle.clic_tool.specs.Shipped.{shipped_meanings, shipped_board}
+use Rattle.clic_tool.specs.Files.{image_limit, image_read, scenario_limit, scenario_read}
+use Rattle.clic_tool.specs.declared.run_order.RunOrder.{RunOrder}
+
+-- two files, a number from 0 to 1,000,000,000, and a flag
+abbrev pub run_app : App
+run_app = with_rule (with_rule (with_rule (with_rule (new_app (codes "run")) (text_rule (codes "IMAGE"))) (text_rule (codes "SCENARIO"))) (number_rule (codes "BOUND") 0 1_000_000_000)) (flag_rule (codes "trace"))
+
+-- the files, the bound, and whether a trace is wanted
+pub record RunWords : Type 0 where
+  pub image_name : Text
+  pub scenario_name : Text
+  pub bound_is : ℕ
+  pub traces : Bool
+
+-- what clap finds in the words. Each is there where clap takes them
+unfoldable pub run_in : List Row → RunWords
+run_in rows = record {
+  image_name = unwrap_or (first_of (codes "IMAGE") rows) [];
+  scenario_name = unwrap_or (first_of (codes "SCENARIO") rows) [];
+  bound_is = unwrap_or (number_in (one_of (codes "BOUND") rows)) 0;
+  traces = is_flag_on (one_of (codes "trace") rows);
+}
+
+-- the same, without where the names lie
+abbrev pub view_run : RunOrder → RunWords
+view_run r = record { image_name = r.image.now; scenario_name = r.scenario.now; bound_is = r.bound; traces = r.trace }
+
+-- the status of a run that ended so
+abbrev pub status_of : RunEnd → Status
+status_of (Halted code steps) = Done
+status_of budget_spent = BudgetSpent
+status_of (vector_fault id steps) = VectorFault
+status_of sink_failed = SinkFailed
+
+-- a run: the board at reset in the scenario's shape, with the image's bytes and its entry, and the events as they come
+abbrev pub run_made : ImageView → EventList → ℕ → Ran
+run_made image events bound = run_of shipped_meanings every_step events.list bound (loaded image (shipped_board events.shape))
+
+-- what is told of it
+unfoldable pub run_told : RunWords → ImageView → EventList → List ℕ
+run_told run image events = run_text shipped_meanings run.traces run.bound_is (run_made image events run.bound_is)
+
+-- what is due of it
+abbrev pub run_due : RunWords → ImageView → EventList → Due
+run_due run image events = at_once (run_told run image events) (status_of (run_made image events run.bound_is).end)
+
+-- the image is read, then the scenario, and then the run is made
+abbrev pub scenario_plan : RunWords → ImageView → Plan (Unit {0})
+scenario_plan run image = reads (codes "scenario") scenario_limit scenario_read run.scenario_name (λ events. Makes (run_due run image events) tt)
+
+abbrev pub run_plan : RunWords → Plan (Unit {0})
+run_plan run = reads (codes "image") image_limit image_read run.image_name (λ image. scenario_plan run image)
