@@ -145,18 +145,19 @@ fn the_put_of_an_image_fails(rt: HostRuntime) -> Result<(), Fail> {
     Ok(())
 }
 
+const LISTED: [&str; 2] = ["disasm", "i.img"];
+
 // And so is a listing.
 #[test]
 fn the_put_of_a_listing_fails(rt: HostRuntime) -> Result<(), Fail> {
-    let words = ["disasm", "i.img"];
     let failing = Case {
         put: 1,
-        ..given(&words, &HALTS, b"")
+        ..given(&LISTED, &HALTS, b"")
     };
     answers(&rt, rt.alloc(), &failing, Status::SinkFailed, b"")?;
     let small = Case {
         room: 20,
-        ..given(&words, &HALTS, b"")
+        ..given(&LISTED, &HALTS, b"")
     };
     answers(
         &rt,
