@@ -4,8 +4,6 @@
 mod assemble_command;
 mod assemble_order;
 mod assembling;
-#[cfg(test)]
-mod board_tests;
 mod command;
 mod disassemble_command;
 mod disassemble_order;
@@ -15,8 +13,6 @@ mod order;
 mod order_reading;
 mod run_command;
 mod run_order;
-#[cfg(test)]
-mod run_tests;
 mod running;
 mod scenario_file;
 #[cfg(test)]
