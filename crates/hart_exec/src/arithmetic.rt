@@ -65,7 +65,7 @@ fn left_over_unsigned(x: u32, y: u32) -> u32
 }
 
 // What the operation gives for the words of its two registers.
-#[inline]
+#[inline(always)]
 pub(crate) fn alu(op: RegOp, x: u32, y: u32) -> u32
     ensures { result ≡ register_result op x y }
 {

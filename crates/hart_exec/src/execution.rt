@@ -66,7 +66,7 @@ fn store(op: StoreOp, at: u32, value: u32) -> Effect
 }
 
 #[tactic(auto, unfolding(crate::specs::Effect::effect))]
-#[inline]
+#[inline(always)]
 fn effect_of(ins: &Ins, length: u32, regs: &Regs, pc: u32) -> Effect
     requires { IsTrue (can_be_spelled ins.now) }
     ensures { result ≡ effect ins.now length regs.now pc }
@@ -103,7 +103,7 @@ fn effect_of(ins: &Ins, length: u32, regs: &Regs, pc: u32) -> Effect
 }
 
 /// What the instruction at pc asks for. Its length is 2 where a half-word stands for it.
-#[inline]
+#[inline(always)]
 pub fn execute(ins: &Ins, length: u32, regs: &Regs, pc: u32) -> Effect
     requires fits { IsTrue (can_be_spelled ins.now) }
     requires length { (length ≡ 2) ⊎ (length ≡ 4) }

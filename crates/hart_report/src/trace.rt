@@ -62,6 +62,7 @@ fn fill_step(told: &Stepped, line: &mut Line)
 }
 
 /// Writes the line of a step, where a trace is asked for.
+#[inline(always)]
 pub fn put_step<W: Sink>(on: bool, told: &Stepped, out: &mut W) -> Result<(), SinkFault>
     ensures text { Writes (is_ok result) (W.told out.old) (W.told out.new) (step_text on told.now) }
     ensures asked { OnErr result (on ≡ true) }
