@@ -24,13 +24,13 @@ use Rattle.chain_core.proofs.Nested.{passed}
 use Rattle.chain_core.proofs.Alone.{leaves_alone}
 
 -- an Enter is made after a move exactly where one is due then: what a run of the machine has, the latest move first
-abbrev Follows : Move → List (Made Move) → Type 0
+abbrev pub Follows : Move → List (Made Move) → Type 0
 Follows kind [] = Unit {0}
 Follows Enter (m ∷ made) = m.claims ≡ true
 Follows Leave (m ∷ made) = m.claims ≡ false
 Follows Body (m ∷ made) = m.claims ≡ false
 
-abbrev AreFollowing : List (Made Move) → Type 0
+abbrev pub AreFollowing : List (Made Move) → Type 0
 AreFollowing [] = Unit {0}
 AreFollowing (m ∷ made) = Follows m.kind made × AreFollowing made
 
@@ -38,17 +38,17 @@ module _ (m : Meanings) (es : List Event) where
   abbrev machine : Machine Move Servicing Service
   machine = servicing_machine m es
 
-  none_due : (o : Option Choice) → claims_by o false ≡ false
+  pub none_due : (o : Option Choice) → claims_by o false ≡ false
   none_due None = refl
   none_due (Some t) = refl
 
-  soft : (s t : Servicing) → Enters s t → claims s ≡ true
+  pub soft : (s t : Servicing) → Enters s t → claims s ≡ true
   unfolding claims
   soft s t h =
       let hard : h.choice.shv ≡ false = (passed h.choice.shv HardVectored _ h.untested).0 in
       ap (λ o. claims_by o (is_enter_due s (top s.outside.clic))) h.is_top ∙ (ap (λ d. d && not h.choice.shv) h.is_due ∙ ap not hard)
 
-  quiet : (s : Servicing) → is_enter_due s (top s.outside.clic) ≡ false → claims s ≡ false
+  pub quiet : (s : Servicing) → is_enter_due s (top s.outside.clic) ≡ false → claims s ≡ false
   unfolding claims
   quiet s e = ap (claims_by (top s.outside.clic)) e ∙ none_due (top s.outside.clic)
 
@@ -75,13 +75,13 @@ module _ (m : Meanings) (es : List Event) where
   returning_one made Leave e = omega (arith, e)
   returning_one made Body e = omega (arith, e)
 
-  returning_is : (made : List (Made Move)) → cost machine Returning made ≡ (counts made).bodies + 14 * (counts made).enters + 16 * (counts made).leaves
+  pub returning_is : (made : List (Made Move)) → cost machine Returning made ≡ (counts made).bodies + 14 * (counts made).enters + 16 * (counts made).leaves
   unfolding cost counts
   returning_is [] = refl
   returning_is (k ∷ made) = returning_one made k.kind (returning_is made)
 
   -- what a Leave costs more where the Enter after it isn't made yet
-  abbrev rest : Bool → ℕ
+  abbrev pub rest : Bool → ℕ
   rest true = 11
   rest false = 0
 
@@ -127,7 +127,7 @@ module _ (m : Meanings) (es : List Event) where
       omega (arith, e, h, k)
   looping_one made Body claims f e = let h = ap rest (halfway_body made f) in omega (arith, e, h)
 
-  looping_is : (made : List (Made Move)) → AreFollowing made → cost machine Looping made + 23 * (counts made).pairs + rest (is_halfway machine Looping made) ≡ cost machine Returning made
+  pub looping_is : (made : List (Made Move)) → AreFollowing made → cost machine Looping made + 23 * (counts made).pairs + rest (is_halfway machine Looping made) ≡ cost machine Returning made
   unfolding cost counts
   looping_is [] f = refl
   looping_is (k ∷ made) f = looping_one made k.kind k.claims f.0 (looping_is made f.1)

@@ -54,7 +54,7 @@ use Rattle.chain_core.proofs.Leading.{run_is_list, along}
 use Rattle.chain_core.proofs.Nested.{passed, run_nests, depth_below}
 use Rattle.chain_core.proofs.Permitted.{permitted_leaves_controller}
 
-word-lt : (n : ℕ) → word n < 2 ^ 32
+pub word-lt : (n : ℕ) → word n < 2 ^ 32
 word-lt n = omega arith
 
 even-is : (n : ℕ) → n < 2 ^ 32 → (even n % 2 ≡ 0) × (even n < 2 ^ 32)
@@ -69,11 +69,11 @@ found_small m (InRom k) w = number_at-lt m.rom k 4 w.rom_bytes
 found_small m (InRam k) w = number_at-lt m.ram k 4 w.ram_bytes
 found_small m Elsewhere w = omega arith
 
-table_small : (m : Memory) (at : ℕ) → IsWhole m → table_word m at < 2 ^ 32
+pub table_small : (m : Memory) (at : ℕ) → IsWhole m → table_word m at < 2 ^ 32
 unfolding table_word
 table_small m at w = found_small m (place at 4) w
 
-enter_are : (registers : List ℕ) (frame at target : ℕ) → AreRegisters registers → frame < 2 ^ 32 → at < 2 ^ 32 → target < 2 ^ 32 → AreRegisters (enter_registers registers frame at target)
+pub enter_are : (registers : List ℕ) (frame at target : ℕ) → AreRegisters registers → frame < 2 ^ 32 → at < 2 ^ 32 → target < 2 ^ 32 → AreRegisters (enter_registers registers frame at target)
 unfolding enter_registers
 enter_are registers frame at target h f a t = register_set _ 1 back (register_set _ 11 target (register_set _ 10 at (register_set registers 2 frame h f) a) t) (omega arith)
 
@@ -81,7 +81,7 @@ leave_are : (registers : List ℕ) (v : Live) (sp : ℕ) → AreRegisters regist
 unfolding leave_registers
 leave_are registers v sp h l s = register_set _ 2 sp (register_set _ 11 v.a1 (register_set _ 10 v.a0 (register_set registers 1 v.ra h l.ra) l.a0) l.a1) s
 
-events_inputs : (m : Meanings) (es : List Event) (t : State) (count : ℕ) → (with_events m count es t).outside.clic.shape.inputs ≡ t.outside.clic.shape.inputs
+pub events_inputs : (m : Meanings) (es : List Event) (t : State) (count : ℕ) → (with_events m count es t).outside.clic.shape.inputs ≡ t.outside.clic.shape.inputs
 unfolding with_events
 events_inputs m es t count = ap (λ x. x.inputs) (events_shape m count es t.outside)
 
@@ -105,11 +105,11 @@ module _ (m : Meanings) (sound : IsSoundDevice m) (n : ℕ) where
       }
 
 module _ (m : Meanings) (es : List Event) (sound : IsSoundDevice m) (n from : ℕ) (events : AreEventsFrom n from es) where
-  abbrev InRange : Move → Servicing → Type 0
+  abbrev pub InRange : Move → Servicing → Type 0
   InRange kind t = IsInRange m t × (t.outside.clic.shape.inputs ≡ n)
 
   -- ---- Enter
-  entered_range : (s : Servicing) (t : Choice) → top s.outside.clic ≡ Some t → InRange Enter s → InRange Enter (entered s t)
+  pub entered_range : (s : Servicing) (t : Choice) → top s.outside.clic ≡ Some t → InRange Enter s → InRange Enter (entered s t)
   unfolding entered
   entered_range s t e (h, same) =
       let at = table_address s.table t.id in
@@ -140,7 +140,7 @@ module _ (m : Meanings) (es : List Event) (sound : IsSoundDevice m) (n from : �
     outside = b.outside;
   }
 
-  left_range : (s : Servicing) (v : Live) (vs : List Live) → s.live ≡ v ∷ vs → InRange Leave s → InRange Leave (left s v vs)
+  pub left_range : (s : Servicing) (v : Live) (vs : List Live) → s.live ≡ v ∷ vs → InRange Leave s → InRange Leave (left s v vs)
   unfolding left
   left_range s v [] e (h, same) =
       let l = subst AreSuspended e h.live in
@@ -186,7 +186,7 @@ module _ (m : Meanings) (es : List Event) (sound : IsSoundDevice m) (n from : �
   fetched_range s (Missing at) h e = tt
   fetched_range s (Bits bits length) h e = decoded_range s bits length (decoded bits length) h e refl
 
-  body_range : (s : Servicing) → InRange Body s → WhereMade InRange (body m es s)
+  pub body_range : (s : Servicing) → InRange Body s → WhereMade InRange (body m es s)
   unfolding body
   body_range s h =
       unless InRange Before (first_broken (first_tests s.dead s.pc)) s.bodies
@@ -204,7 +204,7 @@ module _ (m : Meanings) (es : List Event) (sound : IsSoundDevice m) (n from : �
   run_range s t k made same h e =
       (along (servicing_machine m es) s (InRange Body) (λ u w kind moves p. move_range u kind w (is_one m es u kind w moves).1 p) made t (run_is_list (servicing_machine m es) s k made t e) (h, same)).0
 
-innermost_small : (live : List Live) → AreSuspended live → innermost_level (marks live) < 256
+pub innermost_small : (live : List Live) → AreSuspended live → innermost_level (marks live) < 256
 unfolding marks
 innermost_small [] l = omega arith
 innermost_small (v ∷ vs) l = l.0.level
@@ -241,7 +241,7 @@ zeros_bytes : (n : ℕ) → AreBytes (zeros n)
 unfolding zeros
 zeros_bytes n = zero_bytes n
 
-length-zeros : (n : ℕ) → length (zeros n) ≡ n
+pub length-zeros : (n : ℕ) → length (zeros n) ≡ n
 unfolding zeros
 length-zeros n = length-replicate n 0
 

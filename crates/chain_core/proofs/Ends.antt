@@ -44,7 +44,7 @@ module _ {K S E : Type 0} (x : Machine K S E) (d : Dispatcher) where
       ap (run_to x s) (sym n) ∙ more s (suc (length made)) (bound - length made) (Over made t)
       (next_run s (length made) ∙ (ap (gone_on x) (list_is_run x s made t h) ∙ ap (moved_on x made t) e)) refl
 
-  needed_more : (when : When) (n : ℕ) → n ≤ steps_needed when n
+  pub needed_more : (when : When) (n : ℕ) → n ≤ steps_needed when n
   needed_more Before n = omega arith
   needed_more Within n = omega arith
   needed_more After n = omega arith

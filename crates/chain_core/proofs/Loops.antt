@@ -3,10 +3,11 @@ use Rattle.std.proofs.Common.{◌≡◌, ℕ, zero, suc, ◌+◌, ◌-◌, ◌<�
 use Rattle.std.specs.Prelude.{◌&&◌, ◌||◌, ◌==◌, nat_lt, slice_index_or}
 use Rattle.std.proofs.Math.ListN.{drop_of_length-le}
 use Rattle.std.proofs.Math.Seq.{drop-cons}
-use Rattle.std.proofs.lemmas.List.{get_or_past}
+use Rattle.std.proofs.lemmas.List.{get_or_past, get_or-set_other}
+use Rattle.std.specs.Prelude.{slice_index}
 use Rattle.std.proofs.lemmas.Bool.{cases_eq}
 use Rattle.std.proofs.Math.Bool.{or-false, or_assoc, or_comm}
-use Rattle.std.proofs.lemmas.Grind.{reverse_onto}
+use Rattle.std.proofs.lemmas.Grind.{reverse_onto, get_or-set_at}
 use Rattle.std.proofs.lemmas.Bool.Decides.{nat_tests}
 use Rattle.chain_core.specs.Bytes.{some_byte, in_frame, in_live_frame, overlaps, marked}
 use Rattle.chain_core.specs.Tests.{is_free, are_kept}
@@ -132,3 +133,11 @@ marked_more d k n i b h =
 pub marked_none : (d : List Bool) (k n i : ℕ) (b : Bool) → n ≤ i → marked d (k + i) (n - i) b ≡ d
 unfolding marked
 marked_none d k n i b h = let e : n - i ≡ 0 = omega arith in ap (λ q. marked d (k + i) q b) e
+
+-- ---- an array that is filled
+pub set_more : (words registers : List ℕ) (at r value : ℕ) → r < 32 → length words ≡ 32 → at ≡ r → value ≡ register registers r → ((k : ℕ) → k < r → slice_index words k ≡ slice_index registers k) → (k : ℕ) → k < r + 1 → slice_index (set words at value) k ≡ slice_index registers k
+set_more words registers at r value l n e v h k below =
+    ⊎_elim
+    (λ (q : k ≡ r). get_or-set_at words at k value 0 (q ∙ sym e) (omega (arith, e, n, l)) ∙ v ∙ ap (register registers) (sym q))
+    (λ (ne : k ≡ r → ⊥). get_or-set_other words at k value 0 (λ q. ne (q ∙ e)) ∙ h k (omega (arith, below, ne)))
+    (cases_eq k r)

@@ -41,7 +41,7 @@ clear live dead shv vector frame at e =
 
 module _ (m : Meanings) (es : List Event) where
   -- ---- levels
-  above : (s : Servicing) (t : Choice) → is_enter_due s (Some t) ≡ true → innermost_level (marks s.live) < t.level
+  pub above : (s : Servicing) (t : Choice) → is_enter_due s (Some t) ≡ true → innermost_level (marks s.live) < t.level
   unfolding is_enter_due
   above s t e = ltb-true (innermost_level (marks s.live)) t.level (and_parts _ _ (and_parts (takes_interrupts (marks s.live) s.on) _ e).1).0
 
@@ -60,7 +60,7 @@ module _ (m : Meanings) (es : List Event) where
       let x : BodyLeaves s t = leaves_alone m es s Body t h in
       subst (λ l. P (marks l)) (sym x.live) p
 
-  new_level : (s : Servicing) (choice : Choice) → is_enter_due s (Some choice) ≡ true → first_broken (enter_tests (marks s.live) s.dead choice.shv s.vector (new_frame s) (table_address s.table choice.id)) ≡ None → AreRising (marks s.live) → AreRising (marks (entered s choice).live)
+  pub new_level : (s : Servicing) (choice : Choice) → is_enter_due s (Some choice) ≡ true → first_broken (enter_tests (marks s.live) s.dead choice.shv s.vector (new_frame s) (table_address s.table choice.id)) ≡ None → AreRising (marks s.live) → AreRising (marks (entered s choice).live)
   unfolding entered marks
   new_level s choice due none p = (above s choice due, p)
 

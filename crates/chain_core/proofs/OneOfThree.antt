@@ -52,7 +52,7 @@ module _ (m : Meanings) (es : List Event) where
   abbrev HasRom : List ℕ → State → Type 0
   HasRom rom t = t.memory.rom ≡ rom
 
-  rom_stays : (s : Servicing) (ins : Ins) (bits length : ℕ) → Of (HasRom s.memory.rom) (performed m (hart s) ins bits length)
+  pub rom_stays : (s : Servicing) (ins : Ins) (bits length : ℕ) → Of (HasRom s.memory.rom) (performed m (hart s) ins bits length)
   rom_stays s ins bits length = performed_holds (HasRom s.memory.rom) m (hart s) ins bits length (record {
     goes = λ rd value target e. refl;
     loads = λ rd at width signed value e l. refl;

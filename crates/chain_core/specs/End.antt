@@ -4,6 +4,7 @@ use Rattle.chain_core.specs.Machine.{When, Before, Within, After, Makes, Breaks,
 use Rattle.chain_core.specs.Run.{Made, Run, On, Broke, Over, run_to, Leads}
 use Rattle.chain_core.specs.Cost.{cost}
 use Rattle.chain_core.specs.declared.dispatcher.Dispatcher.{Dispatcher}
+pub use Rattle.chain_core.specs.declared.ended.Ended.{Ended}
 use Rattle.chain_core.specs.declared.chain_end.ChainEnd.{ChainEnd}
 use Rattle.chain_core.specs.declared.chain_end.ChainEnd.TheVariants.{Done, BudgetSpent, SinkFailed, Broken as BrokenOff}
 use Rattle.chain_core.specs.declared.broken.Broken.{Broken}
@@ -18,11 +19,6 @@ abbrev pub steps_needed : When → ℕ → ℕ
 steps_needed Before steps = steps
 steps_needed Within steps = steps + 1
 steps_needed After steps = steps + 1
-
--- an end, and the steps after which the board then stands
-pub record Ended : Type 0 where
-  pub end : ChainEnd
-  pub steps : ℕ
 
 -- an end, where the bound reaches to it
 abbrev pub end_by : Bool → ChainEnd → ℕ → ℕ → Ended

@@ -20,4 +20,13 @@ pub mod Counts
 pub mod Watched
 pub mod Judge
 pub mod Ranges
+pub mod Beside
+pub mod Agreement
+pub mod Related
+pub mod Walk
+pub mod Progress
+pub mod Text
+pub mod Rounds
+pub mod Chain
+pub mod Both
 pub mod Example

@@ -3,6 +3,7 @@ use Rattle.std.specs.Prelude.{ℕ, Bool, true, List, [], ◌∷◌}
 use Rattle.hart_memory.specs.declared.address_map.TheConstants.{BANK_LEN}
 use Rattle.chain_core.specs.Slot.{frame_size}
 use Rattle.chain_core.specs.Bytes.{marked}
+use Rattle.chain_core.specs.Servicing.{Servicing, marks}
 use Rattle.chain_core.specs.Start.{none_dead}
 use Rattle.chain_core.specs.declared.mark.Mark.{Mark}
 
@@ -10,6 +11,10 @@ use Rattle.chain_core.specs.declared.mark.Mark.{Mark}
 pub record Watched : Type 0 where
   pub live : List Mark
   pub dead : List Bool
+
+-- what is kept beside the board of a servicing state
+abbrev pub watched_of : Servicing → Watched
+watched_of s = record { live = marks s.live; dead = s.dead }
 
 -- no service is live, and no byte is dead
 abbrev pub nothing_watched : Watched

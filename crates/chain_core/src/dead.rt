@@ -1,7 +1,7 @@
 // Bytes of RAM that are dead, as one flag for each.
 ghost use Rattle.std.specs.Prelude.{◌≡◌, ◌+◌, ◌≤◌, length, IfOk};
 ghost use Rattle.hart_memory.specs.declared.address_map.TheConstants.{BANK_LEN};
-ghost use Rattle.chain_core.specs.Bytes.{some_byte, is_hidden, marked};
+ghost use Rattle.chain_core.specs.Bytes.{some_byte, is_dead, is_hidden, marked};
 ghost use Rattle.chain_core.specs.Start.{none_dead};
 
 use crate::slot::{BASE, SLOT_END};
@@ -17,15 +17,12 @@ pub fn alive(alloc: Global, count: usize) -> Result<Vec<bool>, WantOfMemory>
     Ok(vec![in alloc; false; count]?)
 }
 
-/// Whether the byte at an address is in the slot, or dead.
+/// Whether the byte at an address is dead.
 #[tactic(auto, using(crate::proofs::Loops::dead_past))]
-fn hides(dead: &[bool], at: u64) -> bool
+pub fn is_dead(dead: &[bool], at: u64) -> bool
     requires { length dead.now ≡ BANK_LEN }
-    ensures { result ≡ is_hidden dead.now at }
+    ensures { result ≡ is_dead dead.now at }
 {
-    if at >= u64::from(BASE) && at < u64::from(SLOT_END) {
-        return true;
-    }
     if at < u64::from(RAM_BASE) {
         return false;
     }
@@ -35,6 +32,17 @@ fn hides(dead: &[bool], at: u64) -> bool
     } else {
         false
     }
+}
+
+/// Whether the byte at an address is in the slot, or dead.
+fn hides(dead: &[bool], at: u64) -> bool
+    requires { length dead.now ≡ BANK_LEN }
+    ensures { result ≡ is_hidden dead.now at }
+{
+    if at >= u64::from(BASE) && at < u64::from(SLOT_END) {
+        return true;
+    }
+    is_dead(dead, at)
 }
 
 /// Whether one of so many bytes from an address on is in the slot, or dead.

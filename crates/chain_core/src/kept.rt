@@ -5,20 +5,33 @@ ghost use Rattle.chain_core.specs.Tests.{is_free, are_kept, is_lost};
 
 use crate::mark::Mark;
 use crate::slot::BACK;
+use hart_words::Regs;
 
 // Whether a register is one that a handler may change, or is as it was.
-fn is_same(kept: &[u32; 32], registers: &[u32; 32], r: usize) -> bool
+fn is_same(kept: &[u32; 32], registers: &Regs, r: u8) -> bool
     requires { r < 32 }
     ensures { result ≡ (is_free r || register registers.now r == register kept.now r) }
 {
-    r == 1 || r == 10 || r == 11 || registers[r] == kept[r]
+    r == 1 || r == 10 || r == 11 || registers.get(r) == kept[usize::from(r)]
+}
+
+/// The registers as an array.
+pub fn all(registers: &Regs) -> [u32; 32]
+    ensures { result ≡ registers.now }
+{
+    registers.in_range();
+    let mut words = [0; 32];
+    for r in 0..32u8 {
+        words[usize::from(r)] = registers.get(r);
+    }
+    words
 }
 
 /// Whether each register that a handler has to bring back is as it was.
-pub fn keeps(kept: &[u32; 32], registers: &[u32; 32]) -> bool
+pub fn keeps(kept: &[u32; 32], registers: &Regs) -> bool
     ensures { result ≡ are_kept kept.now registers.now 32 }
 {
-    for r in 0..32usize {
+    for r in 0..32u8 {
         if !is_same(kept, registers, r) {
             return false;
         }
@@ -29,7 +42,7 @@ pub fn keeps(kept: &[u32; 32], registers: &[u32; 32]) -> bool
 /// Whether the innermost handler, which stands last, returns, and a register is not as it was when the
 /// handler began.
 #[tactic(auto, using(crate::proofs::Turned::lost_none, crate::proofs::Turned::lost_elsewhere, crate::proofs::Turned::lost_here))]
-pub fn is_lost(marks: &[Mark], pc: u32, registers: &[u32; 32]) -> bool
+pub fn is_lost(marks: &[Mark], pc: u32, registers: &Regs) -> bool
     ensures { result ≡ is_lost (reverse marks.now) pc registers.now }
 {
     if marks.is_empty() {

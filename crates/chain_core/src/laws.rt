@@ -20,12 +20,15 @@ ghost use Rattle.chain_core.specs.Moves.{move, servicing_machine};
 ghost use Rattle.chain_core.specs.Kinds.{IsMove, LeavesAlone, GivesBack};
 ghost use Rattle.chain_core.specs.Nesting.{AreRising, AreApart};
 ghost use Rattle.chain_core.specs.Start.{with_slot, begun};
+ghost use Rattle.chain_core.specs.Chain.{chain_end};
+ghost use Rattle.chain_core.specs.Both.{with_slot_bytes, Starts, BothAgree};
 ghost use Rattle.chain_core.specs.Example.{nothing, halted, start, at_ecall, in_handler, events, shown};
 ghost use Rattle.chain_core.specs.declared.broken.Broken.TheVariants.{HaltInHandler, Exception};
 ghost use Rattle.chain_core.specs.declared.moves.Move.{Move};
 ghost use Rattle.chain_core.specs.declared.dispatcher.Dispatcher.{Dispatcher};
 ghost use Rattle.chain_core.specs.declared.dispatcher.Dispatcher.TheVariants.{Looping, Returning};
 ghost use Rattle.chain_core.specs.declared.chain_end.ChainEnd.{ChainEnd};
+ghost use Rattle.chain_core.specs.declared.chain_end.ChainEnd.TheVariants.{Done};
 
 use device_model::Device;
 
@@ -105,4 +108,14 @@ pub fn a_small_program_runs_so()
     ensures nested { shown (after_moves (servicing_machine nothing events) start 16) ≡ record { pc = 0xD0; sp = 0x2000_0200; t0 = 7; a0 = 11; scratch = 0x2000_0080; bodies = 12; live = []; services = record { number = 2; level = 127; depth = 1 } ∷ record { number = 3; level = 255; depth = 2 } ∷ [] } }
     ensures halts { move halted [] in_handler ≡ Breaks Before HaltInHandler 0 }
     ensures raises { move nothing [] at_ecall ≡ Breaks Within (Exception 11) 0 }
+{}
+
+/// Where a chain is done under either dispatcher, on boards that differ in the slot's bytes alone and
+/// with one list of events, the services are the same, and so are the bodies, the registers, pc, mstatus
+/// and every byte outside the slot and the dead bytes. Going back between the services costs 23 steps
+/// more for each that begins straight after another.
+pub fn both_dispatchers_agree<D: Device>()
+    ensures { (es : List Event) (one other : ℕ) (b : State) (bytes : List ℕ) (steps bodies services at more also listed then : ℕ) → length bytes ≡ slot_end - base → Starts D.means es Looping b → Starts D.means es Returning (with_slot_bytes bytes b)
+        → chain_end D.means es Looping one b ≡ record { end = Done steps bodies services; steps = at } → chain_end D.means es Returning other (with_slot_bytes bytes b) ≡ record { end = Done more also listed; steps = then }
+        → BothAgree D.means es b (with_slot_bytes bytes b) one other steps more bodies also services listed }
 {}

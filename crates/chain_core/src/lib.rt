@@ -4,9 +4,14 @@
 
 mod broken;
 mod chain_end;
+mod chaining;
 mod convention;
+mod course;
 mod dead;
 mod dispatcher;
+mod due;
+mod ended;
+mod ending;
 mod entering;
 mod entry;
 mod frames;
@@ -16,8 +21,12 @@ mod kept;
 pub mod laws;
 mod mark;
 mod moves;
+mod round;
+mod rounds;
 mod slot;
+mod stepping;
 mod taken;
+mod telling;
 #[cfg(test)]
 mod tests;
 mod turn;
@@ -26,7 +35,9 @@ mod watch;
 
 pub use broken::Broken;
 pub use chain_end::ChainEnd;
+pub use chaining::chain;
 pub use dispatcher::{Dispatcher, dispatch_word};
+pub use ended::Ended;
 pub use installing::install;
 pub use mark::Mark;
 pub use moves::Move;

@@ -1,8 +1,11 @@
+ghost use Rattle.chain_core.specs.Judge.{HasBytes};
+
 use super::*;
 use crate::convention::is_permitted;
 use crate::entry::Entry;
 use crate::verdict::Verdict;
 use hart_exec::Effect;
+use hart_words::Regs;
 use rv_encoding::{CsrOp, Ins};
 use std::test::Fail;
 
@@ -105,9 +108,20 @@ fn tests_of_a_fetch(rt: HostRuntime) -> Result<(), Fail> {
     Ok(())
 }
 
+fn load(at: u32) -> Effect
+    ensures { HasBytes result }
+{
+    Effect::Load {
+        rd: 5,
+        at,
+        width: 4,
+        signed: true,
+    }
+}
+
 // An access that isn't aligned is left to the step, which raises.
 #[test]
-fn tests_of_an_access(rt: HostRuntime) -> Result<(), Fail> {
+fn tests_of_a_load(rt: HostRuntime) -> Result<(), Fail> {
     let mut watch = Watch::new(rt.alloc())?;
     watch.enter(OUTER);
     let loads = [
@@ -120,62 +134,47 @@ fn tests_of_an_access(rt: HostRuntime) -> Result<(), Fail> {
         (0x0000_00BC, Verdict::Refused(Broken::ReadsDispatch)),
     ];
     for (at, want) in loads {
-        assert_eq!(rt;
-            watch.judge_effect(Effect::Load {
-                rd: 5,
-                at,
-                width: 4,
-                signed: true
-            }),
-            want
-        );
+        assert_eq!(rt; watch.judge_effect(load(at)), want);
     }
+    Ok(())
+}
+
+#[test]
+fn tests_of_a_store(rt: HostRuntime) -> Result<(), Fail> {
+    let mut watch = Watch::new(rt.alloc())?;
+    watch.enter(OUTER);
     let stores = [
-        (
-            0x2000_00FC,
-            Verdict::Reviving {
-                at: 0x2000_00FC,
-                width: 4,
-            },
-        ),
-        (0x2000_0100, Verdict::Refused(Broken::WritesFrame)),
-        (0x2000_011C, Verdict::Refused(Broken::WritesFrame)),
-        (
-            0x2000_0120,
-            Verdict::Reviving {
-                at: 0x2000_0120,
-                width: 4,
-            },
-        ),
+        (0x2000_00FC, false),
+        (0x2000_0100, true),
+        (0x2000_011C, true),
+        (0x2000_0120, false),
     ];
-    for (at, want) in stores {
+    for (at, meets) in stores {
+        let want = if meets {
+            Verdict::Refused(Broken::WritesFrame)
+        } else {
+            Verdict::Reviving { at, width: 4 }
+        };
+        let value = 0;
+        let width = 4;
         assert_eq!(rt;
-            watch.judge_effect(Effect::Store {
-                at,
-                width: 4,
-                value: 0
-            }),
+            watch.judge_effect(Effect::Store { at, width, value }),
             want
         );
     }
+    Ok(())
+}
+
+// The frame's bytes stay dead after the service, until they are stored to.
+#[test]
+fn bytes_that_are_revived(rt: HostRuntime) -> Result<(), Fail> {
+    let mut watch = Watch::new(rt.alloc())?;
+    watch.enter(OUTER);
     watch.leave();
     watch.revive(0x2000_0110, 4);
+    assert_eq!(rt; watch.judge_effect(load(0x2000_0110)), Verdict::Plain);
     assert_eq!(rt;
-        watch.judge_effect(Effect::Load {
-            rd: 5,
-            at: 0x2000_0110,
-            width: 4,
-            signed: true
-        }),
-        Verdict::Plain
-    );
-    assert_eq!(rt;
-        watch.judge_effect(Effect::Load {
-            rd: 5,
-            at: 0x2000_0114,
-            width: 4,
-            signed: true
-        }),
+        watch.judge_effect(load(0x2000_0114)),
         Verdict::Refused(Broken::ReadsDispatch)
     );
     Ok(())
@@ -215,18 +214,18 @@ fn instructions_that_are_permitted(rt: HostRuntime) {
 #[test]
 fn registers_that_are_lost(rt: HostRuntime) -> Result<(), Fail> {
     let mut watch = Watch::new(rt.alloc())?;
-    let mut registers = [0; 32];
-    registers[8] = 1;
+    let mut registers = Regs::new();
+    registers.set(8, 1);
     assert!(rt; !watch.has_lost(0x74, &registers));
     watch.enter(OUTER);
     assert!(rt; watch.has_lost(0x74, &registers));
     assert!(rt; !watch.has_lost(0x70, &registers));
-    registers[8] = 0;
-    registers[1] = 1;
-    registers[10] = 2;
-    registers[11] = 3;
+    registers.set(8, 0);
+    registers.set(1, 1);
+    registers.set(10, 2);
+    registers.set(11, 3);
     assert!(rt; !watch.has_lost(0x74, &registers));
-    registers[31] = 4;
+    registers.set(31, 4);
     assert!(rt; watch.has_lost(0x74, &registers));
     Ok(())
 }

@@ -9,7 +9,7 @@ ghost use Rattle.chain_core.specs.Tests.{is_lost};
 ghost use Rattle.chain_core.specs.Judge.{judge_entry};
 ghost use Rattle.chain_core.specs.Watched.{Watched, nothing_watched, with_service, without_service, outside_of};
 
-use crate::dead::{alive, hides_some, mark};
+use crate::dead::{alive, hides_some, is_dead, mark};
 use crate::entering::test_entry;
 use crate::entry::Entry;
 use crate::frames::{meets, without_last};
@@ -18,7 +18,8 @@ use crate::mark::Mark;
 use crate::slot::FRAME_SIZE;
 use arrayvec::ArrayVec;
 use hart_memory::{BANK_LEN, Place, RAM_BASE, place_of};
-use hart_words::WantOfMemory;
+use hart_report::DeadBytes;
+use hart_words::{Regs, WantOfMemory};
 use std::alloc::Global;
 use std::marker::Model;
 
@@ -138,9 +139,19 @@ impl Watch {
     }
 
     /// Whether a handler returns, and a register is not as it was when the handler began.
-    pub(crate) fn has_lost(&self, pc: u32, registers: &[u32; 32]) -> bool
+    pub(crate) fn has_lost(&self, pc: u32, registers: &Regs) -> bool
         ensures { result ≡ is_lost self.now.live pc registers.now }
     {
         is_lost(self.marks.as_slice(), pc, registers)
+    }
+}
+
+impl DeadBytes for Watch {
+    ghost use Rattle.chain_core.specs.Bytes.{is_dead};
+
+    ghost dead = { λ w. is_dead w.dead };
+
+    fn is_dead(&self, at: u32) -> bool {
+        is_dead(&self.dead, u64::from(at))
     }
 }

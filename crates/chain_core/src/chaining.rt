@@ -1,0 +1,132 @@
+// A chain to its end.
+ghost use Rattle.std.specs.Prelude.{◌≡◌, true, IfOk, IfErr, IsTrue};
+ghost use Rattle.board_outside.specs.Sink.{Writes};
+ghost use Rattle.chain_core.specs.ChainRun.{read_to};
+ghost use Rattle.chain_core.specs.Words.{HasDispatcher};
+ghost use Rattle.chain_core.specs.Watched.{nothing_watched};
+ghost use Rattle.chain_core.specs.Moves.{servicing_machine};
+ghost use Rattle.chain_core.specs.Start.{begun};
+ghost use Rattle.chain_core.specs.End.{services_within};
+ghost use Rattle.chain_core.specs.Chain.{chain_end, machine_run, board_after, dead_at, steps_part, report_part, chain_text, is_whole, is_done, StopsInSteps, Stops, AgreesWhereDone};
+ghost use Rattle.chain_core.specs.declared.chain_end.ChainEnd.TheVariants.{Done, SinkFailed};
+
+use crate::chain_end::ChainEnd;
+use crate::course::Course;
+use crate::dispatcher::Dispatcher;
+use crate::ended::Ended;
+use crate::ending::put_report;
+use crate::round::Round;
+use crate::rounds::round;
+use crate::watch::Watch;
+use board_outside::{Sink, SinkFault};
+use device_model::Device;
+use hart_board::laws::kept_states_stay;
+use hart_board::{Board, Events, take_due};
+
+fn ended(end: ChainEnd, steps: u64) -> Ended
+    ensures { result ≡ record { end = end; steps = steps } }
+{
+    Ended { end, steps }
+}
+
+// The board has halted with no service live.
+fn done(course: &Course, steps: u64) -> ChainEnd
+    ensures { result ≡ Done steps course.now.bodies course.now.services }
+{
+    ChainEnd::Done {
+        steps,
+        bodies: course.bodies,
+        services: course.services,
+    }
+}
+
+// Rounds until the chain ends, with the lines of its steps and services.
+fn advance<D: Device, W: Sink>(
+    board: &mut Board<D>,
+    watch: &mut Watch,
+    d: Dispatcher,
+    events: &Events,
+    bound: u64,
+    trace: bool,
+    out: &mut W,
+) -> Result<Ended, SinkFault>
+    requires has { HasDispatcher d board.old.memory.rom }
+    requires level { board.old.csrs.mil ≡ 0 }
+    requires new { watch.old ≡ nothing_watched }
+    requires shape { events.now.shape ≡ board.old.outside.clic.shape }
+    ensures end { IfOk result (λ ended. (ended ≡ chain_end D.means events.now.list d bound board.old) × (board.new ≡ board_after D.means events.now.list d bound board.old)) }
+    ensures dead { IfOk result (λ ended. IsTrue (is_done ended.end) → watch.new.dead ≡ dead_at D.means events.now.list bound board.old) }
+    ensures text { IfOk result (λ ended. Writes true (W.told out.old) (W.told out.new) (steps_part D.means events.now.list d trace bound board.old)) }
+    ensures stopped { IfErr result (λ fault. StopsInSteps D.means events.now.list d trace bound board.old board.new (W.told out.old) (W.told out.new)) }
+{
+    board.in_range();
+    events.in_order();
+    let ahead = take_due(board, events, 0, 0);
+    let mut course = Course {
+        bodies: 0,
+        depth: 0,
+        services: 0,
+        ahead,
+    };
+    let mut steps: u64 = 0;
+    loop {
+        match round(
+            board,
+            watch,
+            d,
+            events,
+            &mut course,
+            trace,
+            out,
+            bound - steps,
+        )? {
+            Round::Made(count) => steps += count,
+            Round::Failed(kind, count) => {
+                let bodies = course.bodies;
+                return Ok(ended(ChainEnd::Broken { kind, bodies }, steps + count));
+            }
+            Round::Ended => return Ok(ended(done(&course, steps), steps)),
+            Round::Spent => return Ok(ended(ChainEnd::BudgetSpent, bound)),
+        }
+    }
+}
+
+/// Runs the board under its dispatcher with these events, at most so many steps, as the servicing
+/// machine runs that starts from it. It writes the trace, where it is asked for, the services, and the
+/// report. Where the sink fails in a step's lines, the board stands after that step; where it fails in
+/// the report, at the end of the chain. The watch is of no use afterwards. Nothing is allocated.
+pub fn chain<D: Device, W: Sink>(
+    board: &mut Board<D>,
+    watch: &mut Watch,
+    dispatcher: Dispatcher,
+    events: &Events,
+    bound: u64,
+    trace: bool,
+    out: &mut W,
+) -> ChainEnd
+    requires has { HasDispatcher dispatcher board.old.memory.rom }
+    requires level { board.old.csrs.mil ≡ 0 }
+    requires new { watch.old ≡ nothing_watched }
+    requires shape { events.now.shape ≡ board.old.outside.clic.shape }
+    // The end is that of the servicing machine, and the board stands where its own run of as many
+    // steps leaves it.
+    ensures end { IsTrue (is_whole result) → (result ≡ (chain_end D.means events.now.list dispatcher bound board.old).end) × (board.new ≡ board_after D.means events.now.list dispatcher bound board.old) }
+    ensures text { Writes (is_whole result) (W.told out.old) (W.told out.new) (chain_text D.means events.now.list dispatcher trace bound board.old) }
+    ensures stopped { result ≡ SinkFailed → Stops D.means events.now.list dispatcher trace bound board.old board.new (W.told out.old) (W.told out.new) }
+    // The services read off the board's run are those of the servicing machine within the bound.
+    ensures services { (read_to D.means events.now.list board.old (chain_end D.means events.now.list dispatcher bound board.old).steps).services ≡ services_within (servicing_machine D.means events.now.list) dispatcher bound (begun D.means events.now.list board.old) }
+    // Where the chain is done, the board agrees with the servicing machine's last state.
+    ensures state { AgreesWhereDone (chain_end D.means events.now.list dispatcher bound board.old).end (board_after D.means events.now.list dispatcher bound board.old) (machine_run D.means events.now.list bound board.old) }
+    ensures kept { board.new.kept ≡ board.old.kept }
+{
+    board.in_range();
+    events.in_order();
+    kept_states_stay::<D>();
+    match advance(board, watch, dispatcher, events, bound, trace, out) {
+        Ok(ended) => match put_report(&ended, watch, board, out) {
+            Ok(()) => ended.end,
+            Err(_) => ChainEnd::SinkFailed,
+        },
+        Err(_) => ChainEnd::SinkFailed,
+    }
+}

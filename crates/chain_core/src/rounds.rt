@@ -1,0 +1,353 @@
+// Rounds of a chain: the move that is due, or a Leave with the Enter that it is fused with.
+ghost use Rattle.std.specs.Prelude.{◌≡◌, ℕ, ◌+◌, ◌<◌, ◌≤◌, length, nat_le, is_ok, IfOk, None};
+ghost use Rattle.hart_memory.specs.Place.{place};
+ghost use Rattle.hart_memory.specs.declared.address_map.TheConstants.{RAM_BASE, BANK_LEN};
+ghost use Rattle.chain_core.specs.Slot.{frame_size};
+ghost use Rattle.chain_core.specs.Bytes.{revived_at};
+ghost use Rattle.chain_core.specs.Cost.{body_cost, enter_cost, leave_cost, fused_leave_cost};
+ghost use Rattle.chain_core.specs.Servicing.{is_foreground};
+ghost use Rattle.chain_core.specs.Tests.{is_lost};
+ghost use Rattle.chain_core.specs.Judge.{judge_turn};
+ghost use Rattle.chain_core.specs.Progress.{progress_of, HasRoom, IsOnCourse};
+ghost use Rattle.chain_core.specs.Rounds.{mark_at, fused_cost, round_enter, round_leave, round_parted, round_fused, round_body, round_entry, round_fuse, round_verdict, round_due, retired_round, halted_round, round, steps_made};
+ghost use Rattle.chain_core.specs.Text.{Tells};
+ghost use Rattle.chain_core.specs.declared.turn.Turn.TheVariants.{Enter, Fuse};
+ghost use Rattle.chain_core.specs.declared.entry.Entry.TheVariants.{Admitted};
+
+use crate::broken::Broken;
+use crate::course::Course;
+use crate::dispatcher::Dispatcher;
+use crate::due::judge_turn;
+use crate::entry::Entry;
+use crate::kept::all;
+use crate::mark::Mark;
+use crate::round::Round;
+use crate::stepping::{try_one, walk};
+use crate::turn::Turn;
+use crate::verdict::Verdict;
+use crate::watch::{MAX_LIVE, Watch};
+use board_outside::{Sink, SinkFault};
+use device_model::Device;
+use hart_board::{Board, Events};
+
+const BODY_COST: u64 = 1;
+
+const ENTER_COST: u64 = 14;
+
+const LEAVE_COST: u64 = 16;
+
+const FUSED_LEAVE_COST: u64 = 5;
+
+const FUSED_COST: u64 = 7;
+
+// The mark of a service whose handler begins.
+fn mark_at<D: Device>(board: &Board<D>, frame: u32) -> Mark
+    ensures { result ≡ mark_at board.now frame }
+{
+    Mark {
+        level: board.csrs().mil(),
+        frame,
+        kept: all(board.regs()),
+    }
+}
+
+// An Enter whose tests don't hold.
+fn begin<D: Device, W: Sink>(
+    board: &mut Board<D>,
+    watch: &mut Watch,
+    events: &Events,
+    course: &mut Course,
+    trace: bool,
+    out: &mut W,
+    left: u64,
+    frame: u32,
+) -> Result<Round, SinkFault>
+    requires depth { length watch.old.live < MAX_LIVE }
+    requires frame { (RAM_BASE ≤ frame) × (frame + frame_size ≤ RAM_BASE + BANK_LEN) }
+    requires room { HasRoom course.old left }
+    requires course { IsOnCourse D.means events.now board.old course.old }
+    ensures course { IsOnCourse D.means events.now board.new course.new }
+    ensures round { IfOk result (λ told. record { told = told; progress = progress_of board.new course.new; watch = watch.new } ≡ round_enter D.means events.now.list left (progress_of board.old course.old) watch.old (nat_le enter_cost left) frame) }
+    ensures tells { let due = round_enter D.means events.now.list left (progress_of board.old course.old) watch.old (nat_le enter_cost left) frame in
+        Tells D.means events.now.list trace (steps_made left due.told) (is_ok result) (progress_of board.old course.old) (progress_of board.new course.new) (W.told out.old) (W.told out.new) }
+{
+    if left < ENTER_COST {
+        walk(board, events, course, left, trace, out)?;
+        return Ok(Round::Spent);
+    }
+    walk(board, events, course, ENTER_COST, trace, out)?;
+    watch.enter(mark_at(board, frame));
+    Ok(Round::Made(ENTER_COST))
+}
+
+// A Leave.
+fn leave<D: Device, W: Sink>(
+    board: &mut Board<D>,
+    watch: &mut Watch,
+    events: &Events,
+    course: &mut Course,
+    trace: bool,
+    out: &mut W,
+    left: u64,
+) -> Result<Round, SinkFault>
+    requires room { HasRoom course.old left }
+    requires course { IsOnCourse D.means events.now board.old course.old }
+    ensures course { IsOnCourse D.means events.now board.new course.new }
+    ensures round { IfOk result (λ told. record { told = told; progress = progress_of board.new course.new; watch = watch.new } ≡ round_leave D.means events.now.list left (progress_of board.old course.old) watch.old (nat_le leave_cost left)) }
+    ensures tells { let due = round_leave D.means events.now.list left (progress_of board.old course.old) watch.old (nat_le leave_cost left) in
+        Tells D.means events.now.list trace (steps_made left due.told) (is_ok result) (progress_of board.old course.old) (progress_of board.new course.new) (W.told out.old) (W.told out.new) }
+{
+    if left < LEAVE_COST {
+        walk(board, events, course, left, trace, out)?;
+        return Ok(Round::Spent);
+    }
+    walk(board, events, course, LEAVE_COST, trace, out)?;
+    watch.leave();
+    Ok(Round::Made(LEAVE_COST))
+}
+
+// A Leave whose Enter breaks.
+fn part<D: Device, W: Sink>(
+    board: &mut Board<D>,
+    watch: &mut Watch,
+    events: &Events,
+    course: &mut Course,
+    trace: bool,
+    out: &mut W,
+    left: u64,
+    kind: Broken,
+) -> Result<Round, SinkFault>
+    requires room { HasRoom course.old left }
+    requires course { IsOnCourse D.means events.now board.old course.old }
+    ensures course { IsOnCourse D.means events.now board.new course.new }
+    ensures round { IfOk result (λ told. record { told = told; progress = progress_of board.new course.new; watch = watch.new } ≡ round_parted D.means events.now.list left (progress_of board.old course.old) watch.old (nat_le fused_leave_cost left) kind) }
+    ensures tells { let due = round_parted D.means events.now.list left (progress_of board.old course.old) watch.old (nat_le fused_leave_cost left) kind in
+        Tells D.means events.now.list trace (steps_made left due.told) (is_ok result) (progress_of board.old course.old) (progress_of board.new course.new) (W.told out.old) (W.told out.new) }
+{
+    if left < FUSED_LEAVE_COST {
+        walk(board, events, course, left, trace, out)?;
+        return Ok(Round::Spent);
+    }
+    walk(board, events, course, FUSED_LEAVE_COST, trace, out)?;
+    watch.leave();
+    Ok(Round::Failed(kind, FUSED_LEAVE_COST))
+}
+
+// A Leave and the Enter that it is fused with, whose tests don't hold.
+fn go_over<D: Device, W: Sink>(
+    board: &mut Board<D>,
+    watch: &mut Watch,
+    events: &Events,
+    course: &mut Course,
+    trace: bool,
+    out: &mut W,
+    left: u64,
+    frame: u32,
+) -> Result<Round, SinkFault>
+    requires depth { (0 < length watch.old.live) × (length watch.old.live ≤ MAX_LIVE) }
+    requires frame { (RAM_BASE ≤ frame) × (frame + frame_size ≤ RAM_BASE + BANK_LEN) }
+    requires room { HasRoom course.old left }
+    requires course { IsOnCourse D.means events.now board.old course.old }
+    ensures course { IsOnCourse D.means events.now board.new course.new }
+    ensures round { IfOk result (λ told. record { told = told; progress = progress_of board.new course.new; watch = watch.new } ≡ round_fused D.means events.now.list left (progress_of board.old course.old) watch.old (nat_le fused_cost left) frame) }
+    ensures tells { let due = round_fused D.means events.now.list left (progress_of board.old course.old) watch.old (nat_le fused_cost left) frame in
+        Tells D.means events.now.list trace (steps_made left due.told) (is_ok result) (progress_of board.old course.old) (progress_of board.new course.new) (W.told out.old) (W.told out.new) }
+{
+    if left < FUSED_COST {
+        walk(board, events, course, left, trace, out)?;
+        return Ok(Round::Spent);
+    }
+    walk(board, events, course, FUSED_COST, trace, out)?;
+    watch.leave();
+    watch.enter(mark_at(board, frame));
+    Ok(Round::Made(FUSED_COST))
+}
+
+// What becomes of a body that retired.
+fn retire<D: Device>(board: &Board<D>, watch: &Watch) -> Round
+    ensures { result ≡ retired_round (is_lost watch.now.live board.now.pc board.now.registers) }
+{
+    if watch.has_lost(board.pc(), board.regs()) {
+        Round::Failed(Broken::RegisterLost, BODY_COST)
+    } else {
+        Round::Made(BODY_COST)
+    }
+}
+
+// A body whose tests before its step don't hold, and which stores so many bytes, or none.
+fn carry_out<D: Device, W: Sink>(
+    board: &mut Board<D>,
+    watch: &mut Watch,
+    events: &Events,
+    course: &mut Course,
+    trace: bool,
+    out: &mut W,
+    left: u64,
+    at: u32,
+    width: u32,
+) -> Result<Round, SinkFault>
+    requires room { HasRoom course.old left }
+    requires course { IsOnCourse D.means events.now board.old course.old }
+    ensures course { IsOnCourse D.means events.now board.new course.new }
+    ensures round { IfOk result (λ told. record { told = told; progress = progress_of board.new course.new; watch = watch.new } ≡ round_body D.means events.now.list left (progress_of board.old course.old) watch.old (nat_le body_cost left) (record watch.old { dead = revived_at (place at width) width watch.old.dead })) }
+    ensures tells { let due = round_body D.means events.now.list left (progress_of board.old course.old) watch.old (nat_le body_cost left) (record watch.old { dead = revived_at (place at width) width watch.old.dead }) in
+        Tells D.means events.now.list trace (steps_made left due.told) (is_ok result) (progress_of board.old course.old) (progress_of board.new course.new) (W.told out.old) (W.told out.new) }
+{
+    if left < BODY_COST {
+        walk(board, events, course, left, trace, out)?;
+        return Ok(Round::Spent);
+    }
+    match try_one(board, events, course, trace, out)? {
+        Some(code) => Ok(Round::Failed(Broken::Exception(code), 0)),
+        None => {
+            watch.revive(at, width);
+            Ok(retire(board, watch))
+        }
+    }
+}
+
+// What becomes of a round where the board has halted.
+fn halt(watch: &Watch) -> Round
+    ensures { result ≡ halted_round (is_foreground watch.now.live) }
+{
+    if watch.is_foreground() {
+        Round::Ended
+    } else {
+        Round::Failed(Broken::HaltInHandler, 0)
+    }
+}
+
+// An Enter.
+fn enter<D: Device, W: Sink>(
+    board: &mut Board<D>,
+    watch: &mut Watch,
+    events: &Events,
+    course: &mut Course,
+    trace: bool,
+    out: &mut W,
+    left: u64,
+    entry: Entry,
+) -> Result<Round, SinkFault>
+    requires fits { (frame : ℕ) → entry ≡ Admitted frame → (length watch.old.live < MAX_LIVE) × (RAM_BASE ≤ frame) × (frame + frame_size ≤ RAM_BASE + BANK_LEN) }
+    requires room { HasRoom course.old left }
+    requires course { IsOnCourse D.means events.now board.old course.old }
+    ensures course { IsOnCourse D.means events.now board.new course.new }
+    ensures round { IfOk result (λ told. record { told = told; progress = progress_of board.new course.new; watch = watch.new } ≡ round_entry D.means events.now.list left (progress_of board.old course.old) watch.old entry) }
+    ensures tells { let due = round_entry D.means events.now.list left (progress_of board.old course.old) watch.old entry in
+        Tells D.means events.now.list trace (steps_made left due.told) (is_ok result) (progress_of board.old course.old) (progress_of board.new course.new) (W.told out.old) (W.told out.new) }
+{
+    match entry {
+        Entry::Refused(kind) => Ok(Round::Failed(kind, 0)),
+        Entry::Admitted(frame) => begin(board, watch, events, course, trace, out, left, frame),
+    }
+}
+
+// A Leave and the Enter that it is fused with.
+fn fuse<D: Device, W: Sink>(
+    board: &mut Board<D>,
+    watch: &mut Watch,
+    events: &Events,
+    course: &mut Course,
+    trace: bool,
+    out: &mut W,
+    left: u64,
+    entry: Entry,
+) -> Result<Round, SinkFault>
+    requires fits { (frame : ℕ) → entry ≡ Admitted frame → (0 < length watch.old.live) × (length watch.old.live ≤ MAX_LIVE) × (RAM_BASE ≤ frame) × (frame + frame_size ≤ RAM_BASE + BANK_LEN) }
+    requires room { HasRoom course.old left }
+    requires course { IsOnCourse D.means events.now board.old course.old }
+    ensures course { IsOnCourse D.means events.now board.new course.new }
+    ensures round { IfOk result (λ told. record { told = told; progress = progress_of board.new course.new; watch = watch.new } ≡ round_fuse D.means events.now.list left (progress_of board.old course.old) watch.old entry) }
+    ensures tells { let due = round_fuse D.means events.now.list left (progress_of board.old course.old) watch.old entry in
+        Tells D.means events.now.list trace (steps_made left due.told) (is_ok result) (progress_of board.old course.old) (progress_of board.new course.new) (W.told out.old) (W.told out.new) }
+{
+    match entry {
+        Entry::Refused(kind) => part(board, watch, events, course, trace, out, left, kind),
+        Entry::Admitted(frame) => go_over(board, watch, events, course, trace, out, left, frame),
+    }
+}
+
+// A body.
+fn body<D: Device, W: Sink>(
+    board: &mut Board<D>,
+    watch: &mut Watch,
+    events: &Events,
+    course: &mut Course,
+    trace: bool,
+    out: &mut W,
+    left: u64,
+    verdict: Verdict,
+) -> Result<Round, SinkFault>
+    requires room { HasRoom course.old left }
+    requires course { IsOnCourse D.means events.now board.old course.old }
+    ensures course { IsOnCourse D.means events.now board.new course.new }
+    ensures round { IfOk result (λ told. record { told = told; progress = progress_of board.new course.new; watch = watch.new } ≡ round_verdict D.means events.now.list left (progress_of board.old course.old) watch.old verdict) }
+    ensures tells { let due = round_verdict D.means events.now.list left (progress_of board.old course.old) watch.old verdict in
+        Tells D.means events.now.list trace (steps_made left due.told) (is_ok result) (progress_of board.old course.old) (progress_of board.new course.new) (W.told out.old) (W.told out.new) }
+{
+    match verdict {
+        Verdict::Refused(kind) => Ok(Round::Failed(kind, 0)),
+        Verdict::Plain => carry_out(board, watch, events, course, trace, out, left, 0, 0),
+        Verdict::Reviving { at, width } => {
+            carry_out(board, watch, events, course, trace, out, left, at, width)
+        }
+    }
+}
+
+// The move that is due, on a board that hasn't halted.
+fn make<D: Device, W: Sink>(
+    board: &mut Board<D>,
+    watch: &mut Watch,
+    events: &Events,
+    course: &mut Course,
+    trace: bool,
+    out: &mut W,
+    left: u64,
+    turn: Turn,
+) -> Result<Round, SinkFault>
+    requires enters { (frame : ℕ) → turn ≡ Enter (Admitted frame) → (length watch.old.live < MAX_LIVE) × (RAM_BASE ≤ frame) × (frame + frame_size ≤ RAM_BASE + BANK_LEN) }
+    requires fuses { (frame : ℕ) → turn ≡ Fuse (Admitted frame) → (0 < length watch.old.live) × (length watch.old.live ≤ MAX_LIVE) × (RAM_BASE ≤ frame) × (frame + frame_size ≤ RAM_BASE + BANK_LEN) }
+    requires room { HasRoom course.old left }
+    requires course { IsOnCourse D.means events.now board.old course.old }
+    ensures course { IsOnCourse D.means events.now board.new course.new }
+    ensures round { IfOk result (λ told. record { told = told; progress = progress_of board.new course.new; watch = watch.new } ≡ round_due D.means events.now.list left (progress_of board.old course.old) watch.old turn) }
+    ensures tells { let due = round_due D.means events.now.list left (progress_of board.old course.old) watch.old turn in
+        Tells D.means events.now.list trace (steps_made left due.told) (is_ok result) (progress_of board.old course.old) (progress_of board.new course.new) (W.told out.old) (W.told out.new) }
+{
+    match turn {
+        Turn::Enter(entry) => enter(board, watch, events, course, trace, out, left, entry),
+        Turn::Leave => leave(board, watch, events, course, trace, out, left),
+        Turn::Fuse(entry) => fuse(board, watch, events, course, trace, out, left, entry),
+        Turn::Body(verdict) => body(board, watch, events, course, trace, out, left, verdict),
+    }
+}
+
+/// A round, of which at most so many steps are made that are left.
+#[tactic(auto, unfolding(crate::specs::Rounds::round))]
+pub fn round<D: Device, W: Sink>(
+    board: &mut Board<D>,
+    watch: &mut Watch,
+    d: Dispatcher,
+    events: &Events,
+    course: &mut Course,
+    trace: bool,
+    out: &mut W,
+    left: u64,
+) -> Result<Round, SinkFault>
+    requires enters { D.means.halted board.old.outside.device ≡ None → (frame : ℕ) → judge_turn d board.old watch.old ≡ Enter (Admitted frame) → (length watch.old.live < MAX_LIVE) × (RAM_BASE ≤ frame) × (frame + frame_size ≤ RAM_BASE + BANK_LEN) }
+    requires fuses { D.means.halted board.old.outside.device ≡ None → (frame : ℕ) → judge_turn d board.old watch.old ≡ Fuse (Admitted frame) → (0 < length watch.old.live) × (length watch.old.live ≤ MAX_LIVE) × (RAM_BASE ≤ frame) × (frame + frame_size ≤ RAM_BASE + BANK_LEN) }
+    requires room { HasRoom course.old left }
+    requires course { IsOnCourse D.means events.now board.old course.old }
+    ensures course { IsOnCourse D.means events.now board.new course.new }
+    ensures round { IfOk result (λ told. record { told = told; progress = progress_of board.new course.new; watch = watch.new } ≡ round D.means events.now.list d left (progress_of board.old course.old) watch.old) }
+    ensures tells { let due = round D.means events.now.list d left (progress_of board.old course.old) watch.old in
+        Tells D.means events.now.list trace (steps_made left due.told) (is_ok result) (progress_of board.old course.old) (progress_of board.new course.new) (W.told out.old) (W.told out.new) }
+{
+    match board.halted() {
+        Some(_) => Ok(halt(watch)),
+        None => {
+            let turn = judge_turn(d, board, watch);
+            make(board, watch, events, course, trace, out, left, turn)
+        }
+    }
+}
