@@ -1,0 +1,63 @@
+-- Words of a table, and the handlers that they name.
+use Rattle.std.proofs.Common.{◌≡◌, ℕ, ◌+◌, ◌≤◌, ◌<◌, true, false, List, [], ◌∷◌, ◌++◌, length, get_or, drop, Option, Some, None, sym, ap, ◌∙◌}
+use Rattle.std.proofs.lemmas.List.{drop_more, drop_all}
+use Rattle.std.proofs.lemmas.Bool.{or_parts, not-false, leb-true}
+use Rattle.hart_exec.specs.Effect.{even}
+use Rattle.hart_memory.specs.Memory.{Memory}
+use Rattle.hart_memory.specs.Bytes.{number_at}
+use Rattle.hart_memory.specs.Place.{holds, place, is_in_memory, is_in_rom}
+use Rattle.hart_memory.specs.Access.{loaded, loaded_by}
+use Rattle.hart_memory.specs.declared.address_map.TheConstants.{BANK_LEN}
+use Rattle.hart_memory.specs.declared.place.Place.TheVariants.{InRom}
+use Rattle.hart_memory.proofs.PlaceLemmas.{place_rom}
+use Rattle.chain_core.specs.Slot.{in_slot}
+use Rattle.chain_core.specs.Bytes.{some_byte}
+use Rattle.chain_lint.specs.Walk.{verdict}
+use Rattle.chain_lint.specs.Bound.{Use, bound}
+use Rattle.chain_lint.specs.Tables.{word_place, is_bad_word, IsWordAt, by_word, by_verdict, table_bound}
+use Rattle.chain_lint.specs.declared.region.Region.{Region}
+use Rattle.chain_lint.specs.declared.lint_why.LintWhy.{LintWhy}
+use Rattle.chain_lint.specs.declared.pair.Pair.{Pair}
+use Rattle.chain_lint.specs.declared.verdict.Verdict.{Verdict}
+use Rattle.chain_lint.specs.declared.verdict.Verdict.TheVariants.{Yes, No}
+use Rattle.chain_lint.specs.declared.table_bound.TableBound.TheVariants.{Bound, BadTable, Refused}
+
+word_in_rom : (at : ℕ) → is_bad_word at ≡ false → place at 4 ≡ InRom at
+word_in_rom at e = place_rom at 4 (leb-true (at + 4) BANK_LEN (not-false (is_in_rom at 4) (or_parts _ (some_byte in_slot at 4) e).0))
+
+pub word_held : (at : ℕ) → is_bad_word at ≡ false → holds at 4 ≡ true
+word_held at e = ap (λ p. is_in_memory p) (word_in_rom at e)
+
+pub word_is : (m : Memory) (at w : ℕ) → is_bad_word at ≡ false → loaded m at 4 ≡ Some w → IsWordAt m.rom at (Some w)
+word_is m at w e l =
+    let here = ap (λ p. loaded_by p m 4) (word_in_rom at e) in
+    let is : w ≡ number_at m.rom at 4 = cc in
+    (e, is)
+
+module _ (code : List ℕ) (region : Region) (table : ℕ) (pairs : List Pair) (i : ℕ) (p : Pair) (l : i < length pairs) (here : p ≡ get_or pairs i p) (us : List Use) where
+  first : table_bound code region table (drop i pairs) us ≡ by_word (is_bad_word (word_place table p)) (word_place table p) (by_verdict (λ vs. table_bound code region table (drop (i + 1) pairs) vs) p.level us (verdict code (even (number_at code (word_place table p) 4)) region))
+  unfolding table_bound
+  first = ap (λ (ps : List Pair). table_bound code region table ps us) (drop_more pairs i p l ∙ ap (λ (q : Pair). q ∷ drop (i + 1) pairs) (sym here))
+
+  pub bad_table : (o : Option ℕ) → IsWordAt code (word_place table p) o → o ≡ None → table_bound code region table (drop i pairs) us ≡ BadTable (word_place table p)
+  bad_table None h e = first ∙ ap (λ b. by_word b (word_place table p) (by_verdict (λ vs. table_bound code region table (drop (i + 1) pairs) vs) p.level us (verdict code (even (number_at code (word_place table p) 4)) region))) h
+  bad_table (Some w) h e = absurd cc
+
+  module _ (w : ℕ) (v : Verdict) (is : v ≡ verdict code (even w) region) where
+    judged : (o : Option ℕ) → IsWordAt code (word_place table p) o → o ≡ Some w → table_bound code region table (drop i pairs) us ≡ by_verdict (λ vs. table_bound code region table (drop (i + 1) pairs) vs) p.level us v
+    judged None h e = absurd cc
+    judged (Some x) h e =
+        let same : x ≡ w = cc in
+        first
+        ∙ (ap (λ b. by_word b (word_place table p) (by_verdict (λ vs. table_bound code region table (drop (i + 1) pairs) vs) p.level us (verdict code (even (number_at code (word_place table p) 4)) region))) h.0
+        ∙ ap (λ (y : Verdict). by_verdict (λ vs. table_bound code region table (drop (i + 1) pairs) vs) p.level us y) (ap (λ n. verdict code (even n) region) (sym h.1 ∙ same) ∙ sym is))
+
+    pub refused : (o : Option ℕ) (why : LintWhy) (at : ℕ) → IsWordAt code (word_place table p) o → o ≡ Some w → v ≡ No why at → table_bound code region table (drop i pairs) us ≡ Refused why at
+    refused o why at h e q = judged o h e ∙ ap (λ (y : Verdict). by_verdict (λ vs. table_bound code region table (drop (i + 1) pairs) vs) p.level us y) q
+
+    pub accepted : (o : Option ℕ) (uses : ℕ) → IsWordAt code (word_place table p) o → o ≡ Some w → v ≡ Yes uses → table_bound code region table (drop i pairs) us ≡ table_bound code region table (drop (i + 1) pairs) (us ++ record { level = p.level; uses = uses } ∷ [])
+    accepted o uses h e q = judged o h e ∙ ap (λ (y : Verdict). by_verdict (λ vs. table_bound code region table (drop (i + 1) pairs) vs) p.level us y) q
+
+pub all_taken : (code : List ℕ) (region : Region) (table : ℕ) (pairs : List Pair) (i : ℕ) (us : List Use) → length pairs ≤ i → table_bound code region table (drop i pairs) us ≡ Bound (bound us)
+unfolding table_bound
+all_taken code region table pairs i us l = ap (λ (ps : List Pair). table_bound code region table ps us) (drop_all i pairs l)

@@ -1,0 +1,5 @@
+use Rattle.chain_lint.proofs.Closed as lemmas
+use Rattle.chain_lint.proofs.laws.a_yes_is_sound.Goals as goal
+
+pub returns : goal.returns
+returns g c = lemmas.yes_is_sound g.D.Device.means g.met.D.Device.sound

@@ -1,0 +1,9 @@
+pub mod Flow
+pub mod Transfer
+pub mod Rules
+pub mod Look
+pub mod Walk
+pub mod Bound
+pub mod Soundness
+pub mod Survey
+pub mod Tables

@@ -1,0 +1,36 @@
+// What the checker's yes and the bound mean for runs of the servicing machine, for every device.
+ghost use Rattle.std.specs.Prelude.{◌≡◌, ℕ, List};
+ghost use Rattle.chain_lint.specs.Walk.{verdict};
+ghost use Rattle.chain_lint.specs.Survey.{IsVerdict};
+ghost use Rattle.chain_lint.specs.Soundness.{YesIsSound, BoundIsSound, ListedIsSafe};
+ghost use Rattle.chain_lint.specs.declared.region.Region.{Region};
+ghost use Rattle.chain_lint.specs.declared.verdict.Verdict.{Verdict};
+
+use device_model::Device;
+
+/// Where each handler that is entered is accepted, and each frame lies in the region together with the
+/// bytes below it that its handler uses, no service breaks the convention in one of four kinds, and the
+/// stack pointer stays between the innermost frame and those bytes below it.
+pub fn a_yes_is_sound<D: Device>()
+    ensures { YesIsSound D.means }
+{}
+
+/// Where each handler that is entered is listed with its level, and each Enter from the foreground has
+/// room for the bound, the stack never grows beyond the bound, and each frame lies in the region together
+/// with the bytes below it that its handler uses.
+pub fn the_bound_is_sound<D: Device>()
+    ensures { BoundIsSound D.means }
+{}
+
+/// Nor does a service break the convention in one of the four kinds then.
+pub fn what_is_listed_is_safe<D: Device>()
+    ensures { ListedIsSafe D.means }
+{}
+
+/// The verdict in words: addresses are visited from the handler on, each the least that is reached and
+/// not yet visited; what is known at one is the join over the visits that go there. It is yes where all
+/// that is reached is visited, and else no by the first rule at the next address.
+pub fn a_verdict_is_so()
+    ensures is { (code : List ℕ) (region : Region) (handler : ℕ) → IsVerdict code region handler (verdict code handler region) }
+    ensures only { (code : List ℕ) (region : Region) (handler : ℕ) (answer : Verdict) → IsVerdict code region handler answer → verdict code handler region ≡ answer }
+{}
