@@ -1,0 +1,9 @@
+pub mod FourMoves
+pub mod NothingDirect
+pub mod DirectCosts
+pub mod DirectBothRuns
+pub mod SoftSteps
+pub mod SoftRounds
+pub mod SoftChains
+pub mod DirectStep
+pub mod DirectReturn

@@ -1,0 +1,6 @@
+use Rattle.chain_core.proofs.Listing.{listed_so}
+use Rattle.chain_direct.specs.DirectMoves.{direct_machine}
+use Rattle.chain_direct.proofs.laws.services_are_listed.Goals as goal
+
+pub returns : goal.returns
+returns g c = λ es d bound s. listed_so (direct_machine g.D.Device.means es) d bound s

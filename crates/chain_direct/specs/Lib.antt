@@ -1,0 +1,11 @@
+pub mod Kind
+pub mod Directed
+pub mod DirectBody
+pub mod DirectMoves
+pub mod DirectRun
+pub mod DirectText
+pub mod DirectKinds
+pub mod DirectCounts
+pub mod DirectBoth
+pub mod DirectExample
+pub mod DirectBeside
