@@ -1,0 +1,15 @@
+pub mod NumberText
+pub mod CommandAgain
+pub mod CommandTold
+pub mod LineLoop
+pub mod ScriptTold
+pub mod ScriptFault
+pub mod Quiet
+pub mod Rows
+pub mod InputBytes
+pub mod Stops
+pub mod Plain
+pub mod Commands
+pub mod StopsFirst
+pub mod Undoing
+pub mod BreakFacts

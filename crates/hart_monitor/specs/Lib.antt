@@ -1,0 +1,13 @@
+pub mod Numbers
+pub mod Spelling
+pub mod Lines
+pub mod ScriptFile
+pub mod FirstWrong
+pub mod ScriptReading
+pub mod Breaks
+pub mod Stopping
+pub mod StopKinds
+pub mod Bytes
+pub mod Texts
+pub mod Session
+pub mod Faults
