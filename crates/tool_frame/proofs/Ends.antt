@@ -37,15 +37,15 @@ makes_with nothing left {status = status} {due = due} shelf {sink = sink} {sink'
     inl (record { outcome = worked due left; reached = (refl, refl); ends = work_ends status sink sink' due left ends; leaves = leaves })
 
 -- what was due was made, and nothing is left to be looked at
-pub makes : {status : Status} {due : Due} (shelf : ShelfView) {sink sink' : SinkView} → EndsOrWants status sink sink' due → Follows status (Makes due tt) shelf shelf sink sink'
-makes {due = due} shelf ends = makes_with {B = Unit {0}} tt tt {due = due} shelf ends (record { where_due = λ e. refl; elsewhere = λ e. refl })
+pub makes : {B : Type 0} (nothing : B) {status : Status} {due : Due} (shelf : ShelfView) {sink sink' : SinkView} → EndsOrWants status sink sink' due → Follows nothing status (Makes due nothing) shelf shelf sink sink'
+makes nothing {due = due} shelf ends = makes_with nothing nothing {due = due} shelf ends (record { where_due = λ e. refl; elsewhere = λ e. refl })
 
 -- a command that stopped before its work leaves nothing
 none_left : {B : Type 0} (nothing : B) (status : Status) (due : Due) → Leaves nothing status (stopped due) nothing
 none_left nothing status due = record { where_due = λ e. refl; elsewhere = λ e. refl }
 
--- the file that was fetched last is refused
-refuses : {B : Type 0} (nothing : B) (status : Status) (line : List ℕ) (shelf : ShelfView) (sink sink' : SinkView) → Ends status sink sink' (refused_due line) → FollowsWith nothing status (Refuses line) shelf shelf sink sink' nothing
+-- what was fetched is refused
+pub refuses : {B : Type 0} (nothing : B) (status : Status) (line : List ℕ) (shelf : ShelfView) (sink sink' : SinkView) → Ends status sink sink' (refused_due line) → FollowsWith nothing status (Refuses line) shelf shelf sink sink' nothing
 refuses nothing status line shelf sink sink' ends = inl (record { outcome = stopped (refused_due line); reached = (refl, refl); ends = inl ends; leaves = none_left nothing status (refused_due line) })
 
 -- what was read goes on, or its refusal ends the command

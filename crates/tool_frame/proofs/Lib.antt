@@ -6,3 +6,4 @@ pub mod Held
 pub mod Calm
 pub mod Complete
 pub mod Causes
+pub mod Left

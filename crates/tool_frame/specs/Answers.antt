@@ -133,9 +133,9 @@ abbrev pub FollowsWith : {B : Type 0} → B → Status → Plan B → ShelfView 
 FollowsWith nothing status plan shelf shelf' sink sink' bench =
     Does nothing plan status shelf shelf' sink sink' bench ⊎ Stops nothing status shelf shelf' sink sink' bench
 
--- the same of a plan that leaves nothing to be looked at
-abbrev pub Follows : Status → Plan (Unit {0}) → ShelfView → ShelfView → SinkView → SinkView → Type 0
-Follows status plan shelf shelf' sink sink' = FollowsWith tt status plan shelf shelf' sink sink' tt
+-- the same where nothing is left to be looked at
+abbrev pub Follows : {B : Type 0} → B → Status → Plan B → ShelfView → ShelfView → SinkView → SinkView → Type 0
+Follows nothing status plan shelf shelf' sink sink' = FollowsWith nothing status plan shelf shelf' sink sink' nothing
 
 -- words that are no command: nothing is fetched, and the usage is written
 pub record Misuses (status : Status) (shelf shelf' : ShelfView) (sink sink' : SinkView) : Type 0 where

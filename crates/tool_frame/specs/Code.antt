@@ -1,7 +1,7 @@
 -- The exit status of the program, and what each status tells of.
 use Rattle.std.specs.Prelude.{ℕ}
 use Rattle.tool_frame.specs.declared.status.Status.{Status}
-use Rattle.tool_frame.specs.declared.status.Status.TheVariants.{Done, BudgetSpent, Usage, Absent, ShelfFailed, Refused, SinkFailed, Memory, VectorFault}
+use Rattle.tool_frame.specs.declared.status.Status.TheVariants.{Done, BudgetSpent, Usage, Absent, ShelfFailed, Refused, SinkFailed, Memory, Broken, VectorFault}
 
 abbrev pub code_of : Status → ℕ
 code_of Done = 0
@@ -12,6 +12,7 @@ code_of ShelfFailed = 4
 code_of Refused = 5
 code_of SinkFailed = 6
 code_of Memory = 7
+code_of Broken = 8
 code_of VectorFault = 9
 
 -- the work or the words; a file; or what may fail at any place
@@ -30,4 +31,5 @@ origin_of ShelfFailed = OfFile
 origin_of Refused = OfFile
 origin_of SinkFailed = OfSink
 origin_of Memory = OfMemory
+origin_of Broken = OfCommand
 origin_of VectorFault = OfCommand

@@ -5,7 +5,7 @@ ghost use Rattle.tool_frame.specs.Files.{AnswersStage};
 use crate::stop::Stop;
 use std::alloc::Global;
 
-/// A kind of file that commands read.
+/// A kind of file that commands read, with what its reader has to know besides the bytes.
 pub trait FileKind {
     /// What a file gives.
     type Value;
@@ -14,7 +14,7 @@ pub trait FileKind {
     ghost role: { List ℕ };
 
     /// What the bytes of a file that isn't too long give, or the line of its refusal.
-    ghost stage: { List ℕ → Result Self.Value (List ℕ) };
+    ghost stage: { Self → List ℕ → Result Self.Value (List ℕ) };
 
     /// The greatest length of a file.
     ghost LIMIT: { ℕ };
@@ -25,9 +25,9 @@ pub trait FileKind {
         ensures text { result.now ≡ role }
         ensures short { length result.now ≤ 13 };
 
-    fn read(alloc: Global, bytes: &[u8]) -> Result<Self::Value, Stop>
+    fn read(&self, alloc: Global, bytes: &[u8]) -> Result<Self::Value, Stop>
         requires { length bytes.now ≤ LIMIT }
-        ensures { AnswersStage result (stage bytes.now) };
+        ensures { AnswersStage result (stage self.now bytes.now) };
 
     ghost fetched: { LIMIT ≤ 4_194_304 };
 }

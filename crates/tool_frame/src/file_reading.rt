@@ -53,30 +53,31 @@ pub fn end_refused<W: Sink>(line: &Line, out: &mut W) -> Status
 
 // What the bytes give, or the first of them and one more than the limit.
 #[tactic(auto, unfolding(crate::specs::Plan::measured))]
-fn measure<K: FileKind>(alloc: Global, bytes: &[u8]) -> Result<K::Value, Stop>
-    ensures { AnswersStage result (measured K.role K.LIMIT K.stage bytes.now) }
+fn measure<K: FileKind>(alloc: Global, kind: &K, bytes: &[u8]) -> Result<K::Value, Stop>
+    ensures { AnswersStage result (measured K.role K.LIMIT (K.stage kind.now) bytes.now) }
 {
     if bytes.len() as u64 > K::LIMIT {
         return Err(Stop::Refused(line_of_too_large(K::role())));
     }
-    K::read(alloc, bytes)
+    kind.read(alloc, bytes)
 }
 
 /// Fetches the file of that name, measures it and reads it. Where it can't be had, the command has ended with
 /// the status that is answered.
 pub fn read_file<K: FileKind, F: Shelf, W: Sink>(
     alloc: Global,
+    kind: &K,
     name: &str,
     shelf: &mut F,
     out: &mut W,
 ) -> Result<K::Value, Status>
-    ensures { ReadsFile name.now K.LIMIT (measured K.role K.LIMIT K.stage) result (F.told shelf.old) (F.told shelf.new) (W.told out.old) (W.told out.new) }
+    ensures { ReadsFile name.now K.LIMIT (measured K.role K.LIMIT (K.stage kind.now)) result (F.told shelf.old) (F.told shelf.new) (W.told out.old) (W.told out.new) }
 {
     let bytes = match shelf.fetch(alloc, name, K::LIMIT) {
         Ok(bytes) => bytes,
         Err(fault) => return Err(end_fault(fault, name, out)),
     };
-    match measure::<K>(alloc, &bytes) {
+    match measure(alloc, kind, &bytes) {
         Ok(value) => Ok(value),
         Err(Stop::Refused(line)) => Err(end_refused(&line, out)),
         Err(Stop::Memory) => Err(Status::Memory),

@@ -20,6 +20,8 @@ pub enum Status {
     SinkFailed,
     /// Memory was wanting.
     Memory,
+    /// The convention of a chain is broken.
+    Broken,
     /// The table's word for an input isn't in memory.
     VectorFault,
 }
@@ -40,6 +42,7 @@ impl Status {
             Status::Refused => 5,
             Status::SinkFailed => 6,
             Status::Memory => 7,
+            Status::Broken => 8,
             Status::VectorFault => 9,
         }
     }
