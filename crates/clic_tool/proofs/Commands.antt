@@ -3,17 +3,33 @@ use Rattle.std.proofs.Common.{◌≡◌, refl, sym, subst}
 use Rattle.clap.specs.Words.{App}
 use Rattle.tool_frame.specs.Options.{IsPlainApp}
 use Rattle.clic_tool.specs.Run.{run_app}
+use Rattle.clic_tool.specs.Chain.{chain_app}
+use Rattle.clic_tool.specs.Monitor.{monitor_app}
 use Rattle.clic_tool.specs.Assemble.{assemble_app}
 use Rattle.clic_tool.specs.Disassemble.{disassemble_app}
+use Rattle.clic_tool.specs.Mem.{mem_app}
+use Rattle.clic_tool.specs.Unmem.{unmem_app}
 
 pub run_plain : IsPlainApp run_app
 run_plain = record { simple = refl; simple_and_free = refl; alone = refl; defaults = refl; rules = refl }
+
+pub chain_plain : IsPlainApp chain_app
+chain_plain = record { simple = refl; simple_and_free = refl; alone = refl; defaults = refl; rules = refl }
+
+pub monitor_plain : IsPlainApp monitor_app
+monitor_plain = record { simple = refl; simple_and_free = refl; alone = refl; defaults = refl; rules = refl }
 
 pub assemble_plain : IsPlainApp assemble_app
 assemble_plain = record { simple = refl; simple_and_free = refl; alone = refl; defaults = refl; rules = refl }
 
 pub disassemble_plain : IsPlainApp disassemble_app
 disassemble_plain = record { simple = refl; simple_and_free = refl; alone = refl; defaults = refl; rules = refl }
+
+pub mem_plain : IsPlainApp mem_app
+mem_plain = record { simple = refl; simple_and_free = refl; alone = refl; defaults = refl; rules = refl }
+
+pub unmem_plain : IsPlainApp unmem_app
+unmem_plain = record { simple = refl; simple_and_free = refl; alone = refl; defaults = refl; rules = refl }
 
 pub plain_by : (app known : App) → app ≡ known → IsPlainApp known → IsPlainApp app
 plain_by app known e plain = subst IsPlainApp (sym e) plain

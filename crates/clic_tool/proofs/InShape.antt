@@ -1,5 +1,5 @@
 -- The shipped board is in the shape in which it was made.
-use Rattle.std.proofs.Common.{◌≡◌}
+use Rattle.std.proofs.Common.{◌≡◌, refl}
 use Rattle.clic_regs.specs.Shape.{ClicShape}
 use Rattle.clic_regs.specs.ClicState.{reset_clic}
 use Rattle.hart_board.specs.Outside.{with_device}
@@ -11,3 +11,7 @@ use Rattle.clic_tool.specs.Shipped.{shipped_meanings, shipped_board}
 pub shipped_shape : (shape : ClicShape) → (shipped_board shape).outside.clic.shape ≡ shape
 unfolding shipped_board with_device reset_clic
 shipped_shape shape = lines_shape (shipped_meanings.lines shipped_state) FIRST_DEVICE_INPUT (reset_clic shape)
+
+pub shipped_level : (shape : ClicShape) → (shipped_board shape).csrs.mil ≡ 0
+unfolding shipped_board
+shipped_level shape = refl

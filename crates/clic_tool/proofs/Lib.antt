@@ -1,6 +1,12 @@
 mod RunEnds
+mod TwoFiles
+mod ChainEnds
+mod ChainCauses
+mod MonitorCauses
+mod OrderCauses
 mod Plans
 mod RunCauses
 mod Labels
 mod Commands
 mod InShape
+mod MemoryTexts

@@ -1,5 +1,7 @@
 -- What the frame asks of a plan holds of each command's.
-use Rattle.std.proofs.Common.{◌≡◌, Option, Some, None, codes, refl}
+use Rattle.std.proofs.Common.{◌≡◌, ℕ, Option, Some, None, codes, refl, ap}
+use Rattle.hart_memory.specs.Image.{ImageView}
+use Rattle.hart_board.specs.Event.{EventList}
 use Rattle.tool_frame.specs.Due.{Due}
 use Rattle.tool_frame.specs.Plan.{Makes}
 use Rattle.tool_frame.specs.Code.{OfCommand, origin_of}
@@ -11,27 +13,54 @@ use Rattle.rv_assembler.specs.declared.assembling.TheConstants.{MAX_SOURCE}
 use Rattle.hart_board.specs.Run.{every_step}
 use Rattle.hart_board.proofs.Ending.{never_sink_failed}
 use Rattle.clic_tool.specs.Shipped.{shipped_meanings}
-use Rattle.clic_tool.specs.Files.{image_limit, image_read, scenario_limit, scenario_read, source_read}
-use Rattle.clic_tool.specs.Run.{RunWords, run_due, run_made, run_plan, scenario_plan}
+use Rattle.clic_tool.specs.Bench.{empty_bench}
+use Rattle.clic_tool.specs.Files.{image_limit, image_read, script_limit, script_read, source_read, memory_limit, memory_read}
+use Rattle.clic_tool.specs.Run.{RunWords, run_due, run_made, run_plan}
+use Rattle.clic_tool.specs.Chain.{ChainWords, taken_at, unless_taken, slot_plan, chain_due, chain_left, chain_made, chain_plan}
+use Rattle.clic_tool.specs.Monitor.{MonitorWords, monitor_due, script_plan, monitor_plan}
 use Rattle.clic_tool.specs.Assemble.{AssembleWords, program_due, assemble_plan}
 use Rattle.clic_tool.specs.Disassemble.{DisassembleWords, listing_due, disassemble_plan}
-use Rattle.clic_tool.specs.Order.{Order, Runs, Assembles, Disassembles, plan_of}
+use Rattle.clic_tool.specs.Mem.{MemWords, mem_due, mem_plan}
+use Rattle.clic_tool.specs.Unmem.{UnmemWords, unmem_due, unmem_plan}
+use Rattle.clic_tool.specs.Order.{Order, Runs, Chains, Monitors, Assembles, Disassembles, Mems, Unmems, plan_of}
 use Rattle.clic_tool.proofs.RunEnds.{IsWorkStatus, end_is_work}
+use Rattle.clic_tool.proofs.ChainEnds.{end_is_work as chain_is_work, never_sink_failed as chain_no_sink}
+use Rattle.clic_tool.proofs.TwoFiles.{files_fit}
 
 pub run_fits : (run : RunWords) → Fits (IsAtOnce IsWorkStatus) (run_plan run)
 run_fits run =
-    fits_reads (IsAtOnce IsWorkStatus) (codes "image") image_limit image_read run.image_name (scenario_plan run) (λ image.
-    fits_reads (IsAtOnce IsWorkStatus) (codes "scenario") scenario_limit scenario_read run.scenario_name (λ events. Makes (run_due run image events) tt) (λ events.
-    record { status = end_is_work (run_made image events run.bound_is).end (never_sink_failed shipped_meanings every_step events.list run.bound_is _); at_once = refl }))
+    files_fit (IsAtOnce IsWorkStatus) run.image_name run.scenario_name (λ image events. Makes (run_due run image events) empty_bench) (λ image events.
+    record { status = end_is_work (run_made image events run.bound_is).end (never_sink_failed shipped_meanings every_step events.list run.bound_is _); at_once = refl })
 
--- an assembly that was made is done, and so is a disassembly
+taken_fits : (chain : ChainWords) (image : ImageView) (events : EventList) (taken : Option ℕ) → Fits (IsAtOnce IsWorkStatus) (unless_taken taken (Makes (chain_due chain image events) (chain_left chain image events)))
+taken_fits chain image events None = record { status = chain_is_work (chain_made chain image events) (chain_no_sink shipped_meanings events.list chain.dispatcher_is chain.bound_is _); at_once = refl }
+taken_fits chain image events (Some at) = tt
+
+pub chain_fits : (chain : ChainWords) → Fits (IsAtOnce IsWorkStatus) (chain_plan chain)
+chain_fits chain = files_fit (IsAtOnce IsWorkStatus) chain.image_name chain.scenario_name (λ image events. slot_plan chain image events) (λ image events. taken_fits chain image events (taken_at image))
+
+-- work that was made is done in all other commands
 pub assemble_fits : (words : AssembleWords) → Fits (IsAtOnce (λ s. s ≡ Done)) (assemble_plan words)
 assemble_fits words =
-    fits_reads (IsAtOnce (λ s. s ≡ Done)) (codes "source") MAX_SOURCE source_read words.source_name (λ a. Makes (program_due words a) tt) (λ a. record { status = refl; at_once = refl })
+    fits_reads (IsAtOnce (λ s. s ≡ Done)) (codes "source") MAX_SOURCE source_read words.source_name (λ a. Makes (program_due words a) empty_bench) (λ a. record { status = refl; at_once = refl })
 
 pub disassemble_fits : (words : DisassembleWords) → Fits (IsAtOnce (λ s. s ≡ Done)) (disassemble_plan words)
 disassemble_fits words =
-    fits_reads (IsAtOnce (λ s. s ≡ Done)) (codes "image") image_limit image_read words.image_name (λ image. Makes (listing_due image) tt) (λ image. record { status = refl; at_once = refl })
+    fits_reads (IsAtOnce (λ s. s ≡ Done)) (codes "image") image_limit image_read words.image_name (λ image. Makes (listing_due image) empty_bench) (λ image. record { status = refl; at_once = refl })
+
+pub mem_fits : (words : MemWords) → Fits (IsAtOnce (λ s. s ≡ Done)) (mem_plan words)
+mem_fits words =
+    fits_reads (IsAtOnce (λ s. s ≡ Done)) (codes "image") image_limit image_read words.image_name (λ image. Makes (mem_due image) empty_bench) (λ image. record { status = refl; at_once = refl })
+
+pub unmem_fits : (words : UnmemWords) → Fits (IsAtOnce (λ s. s ≡ Done)) (unmem_plan words)
+unmem_fits words =
+    fits_reads (IsAtOnce (λ s. s ≡ Done)) (codes "memory") memory_limit (memory_read words.entry_is) words.memory_name (λ image. Makes (unmem_due image) empty_bench) (λ image. record { status = refl; at_once = refl })
+
+-- so is a script, whose text is written in parts
+pub monitor_fits : (words : MonitorWords) → Fits (λ due. due.status ≡ Done) (monitor_plan words)
+monitor_fits words =
+    fits_reads (λ due. due.status ≡ Done) (codes "image") image_limit image_read words.image_name (script_plan words.script_name) (λ image.
+    fits_reads (λ due. due.status ≡ Done) (codes "script") script_limit script_read words.script_name (λ commands. Makes (monitor_due image commands) empty_bench) (λ commands. refl))
 
 -- ---- any words
 
@@ -41,21 +70,46 @@ done_is_work s e = record { own = rw e refl; no_usage = λ c. cc }
 done_works : (due : Due) → IsAtOnce (λ s. s ≡ Done) due → IsAtOnce IsWorkStatus due
 done_works due done = record { status = done_is_work due.status done.status; at_once = done.at_once }
 
-pub order_fits : (order : Order) → Fits (IsAtOnce IsWorkStatus) (plan_of (Some order))
-order_fits (Runs run) = run_fits run
-order_fits (Assembles words) = fits_more (IsAtOnce (λ s. s ≡ Done)) (IsAtOnce IsWorkStatus) done_works (assemble_plan words) (assemble_fits words)
-order_fits (Disassembles words) = fits_more (IsAtOnce (λ s. s ≡ Done)) (IsAtOnce IsWorkStatus) done_works (disassemble_plan words) (disassemble_fits words)
+-- all but a script have their memory before they write
+pub order_fits : (order : Order) → ((words : MonitorWords) → order ≡ Monitors words → ⊥) → Fits (IsAtOnce IsWorkStatus) (plan_of (Some order))
+order_fits (Runs run) other = run_fits run
+order_fits (Chains chain) other = chain_fits chain
+order_fits (Monitors words) other = absurd (other words refl)
+order_fits (Assembles words) other = fits_more (IsAtOnce (λ s. s ≡ Done)) (IsAtOnce IsWorkStatus) done_works (assemble_plan words) (assemble_fits words)
+order_fits (Disassembles words) other = fits_more (IsAtOnce (λ s. s ≡ Done)) (IsAtOnce IsWorkStatus) done_works (disassemble_plan words) (disassemble_fits words)
+order_fits (Mems words) other = fits_more (IsAtOnce (λ s. s ≡ Done)) (IsAtOnce IsWorkStatus) done_works (mem_plan words) (mem_fits words)
+order_fits (Unmems words) other = fits_more (IsAtOnce (λ s. s ≡ Done)) (IsAtOnce IsWorkStatus) done_works (unmem_plan words) (unmem_fits words)
 
-pub plan_fits : (order : Option Order) → Fits (IsAtOnce (λ s. origin_of s ≡ OfCommand)) (plan_of order)
-plan_fits None = record { status = refl; at_once = refl }
-plan_fits (Some order) =
-    fits_more (IsAtOnce IsWorkStatus) (IsAtOnce (λ s. origin_of s ≡ OfCommand)) (λ due work. record { status = work.status.own; at_once = work.at_once }) (plan_of (Some order)) (order_fits order)
+abbrev pub IsWork : Due → Type 0
+IsWork due = IsWorkStatus due.status
+
+at_once_works : (order : Order) → Fits (IsAtOnce IsWorkStatus) (plan_of (Some order)) → Fits IsWork (plan_of (Some order))
+at_once_works order fits = fits_more (IsAtOnce IsWorkStatus) IsWork (λ due work. work.status) (plan_of (Some order)) fits
+
+pub order_works : (order : Order) → Fits IsWork (plan_of (Some order))
+order_works (Runs run) = at_once_works (Runs run) (run_fits run)
+order_works (Chains chain) = at_once_works (Chains chain) (chain_fits chain)
+order_works (Monitors words) = fits_more (λ due. due.status ≡ Done) IsWork (λ due done. done_is_work due.status done) (monitor_plan words) (monitor_fits words)
+order_works (Assembles words) = at_once_works (Assembles words) (order_fits (Assembles words) (λ w c. cc))
+order_works (Disassembles words) = at_once_works (Disassembles words) (order_fits (Disassembles words) (λ w c. cc))
+order_works (Mems words) = at_once_works (Mems words) (order_fits (Mems words) (λ w c. cc))
+order_works (Unmems words) = at_once_works (Unmems words) (order_fits (Unmems words) (λ w c. cc))
+
+pub plan_fits : (order : Option Order) → ((words : MonitorWords) → order ≡ Some (Monitors words) → ⊥) → Fits (IsAtOnce (λ s. origin_of s ≡ OfCommand)) (plan_of order)
+plan_fits None other = record { status = refl; at_once = refl }
+plan_fits (Some order) other =
+    fits_more (IsAtOnce IsWorkStatus) (IsAtOnce (λ s. origin_of s ≡ OfCommand)) (λ due work. record { status = work.status.own; at_once = work.at_once }) (plan_of (Some order)) (order_fits order (λ words is. other words (ap Some is)))
 
 pub plan_own : (order : Option Order) → Fits IsOfCommand (plan_of order)
-plan_own order = fits_more (IsAtOnce (λ s. origin_of s ≡ OfCommand)) IsOfCommand (λ due all. all.status) (plan_of order) (plan_fits order)
+plan_own None = refl
+plan_own (Some order) = fits_more IsWork IsOfCommand (λ due work. work.own) (plan_of (Some order)) (order_works order)
 
 pub plan_begins : (order : Option Order) → BeginsWell (plan_of order)
 plan_begins None = tt
 plan_begins (Some (Runs run)) = tt
+plan_begins (Some (Chains chain)) = tt
+plan_begins (Some (Monitors words)) = tt
 plan_begins (Some (Assembles words)) = tt
 plan_begins (Some (Disassembles words)) = tt
+plan_begins (Some (Mems words)) = tt
+plan_begins (Some (Unmems words)) = tt

@@ -16,7 +16,7 @@ use Rattle.tool_frame.specs.Answers.{Ends}
 use Rattle.tool_frame.specs.Due.{at_once}
 use Rattle.tool_frame.specs.Code.{OfCommand, origin_of}
 use Rattle.tool_frame.specs.declared.status.Status.{Status}
-use Rattle.tool_frame.specs.declared.status.Status.TheVariants.{Done, BudgetSpent, Usage, VectorFault}
+use Rattle.tool_frame.specs.declared.status.Status.TheVariants.{Done, BudgetSpent, Usage, Broken, VectorFault}
 
 -- the status of work that was made
 pub record IsWorkStatus (s : Status) : Type 0 where
@@ -46,6 +46,12 @@ is_vector_fault (Halted code steps) e = cc
 is_vector_fault budget_spent e = cc
 is_vector_fault (vector_fault id steps) e = (id, steps, refl)
 is_vector_fault sink_failed e = cc
+
+pub run_no_broken : (end : RunEnd) → status_of end ≡ Broken → ⊥
+run_no_broken (Halted code steps) e = cc
+run_no_broken budget_spent e = cc
+run_no_broken (vector_fault id steps) e = cc
+run_no_broken sink_failed e = cc
 
 -- a run, and the status that it ends with
 pub run_ends : (end due : RunEnd) (text : List ℕ) {status : Status} {o n : SinkView} → status ≡ status_of end → (IsTrue (is_whole end) → end ≡ due) → Writes (is_whole end) o n text → Ends status o n (at_once text (status_of due))

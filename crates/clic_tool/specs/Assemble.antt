@@ -10,6 +10,7 @@ use Rattle.tool_frame.specs.Options.{text_rule, flag_rule, is_flag_on}
 use Rattle.tool_frame.specs.Due.{Due, at_once}
 use Rattle.tool_frame.specs.Plan.{Plan, Makes, reads}
 use Rattle.tool_frame.specs.declared.status.Status.TheVariants.{Done}
+use Rattle.clic_tool.specs.Bench.{Bench, empty_bench}
 use Rattle.clic_tool.specs.Files.{source_read}
 use Rattle.clic_tool.specs.declared.assemble_order.AssembleOrder.{AssembleOrder}
 
@@ -48,5 +49,5 @@ program_text false a = image_text a.image
 abbrev pub program_due : AssembleWords → Assembled → Due
 program_due words a = at_once (program_text words.wants_symbols a) Done
 
-abbrev pub assemble_plan : AssembleWords → Plan (Unit {0})
-assemble_plan words = reads (codes "source") MAX_SOURCE source_read words.source_name (λ a. Makes (program_due words a) tt)
+abbrev pub assemble_plan : AssembleWords → Plan Bench
+assemble_plan words = reads (codes "source") MAX_SOURCE source_read words.source_name (λ a. Makes (program_due words a) empty_bench)

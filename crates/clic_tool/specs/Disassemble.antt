@@ -7,6 +7,7 @@ use Rattle.tool_frame.specs.Options.{text_rule}
 use Rattle.tool_frame.specs.Due.{Due, at_once}
 use Rattle.tool_frame.specs.Plan.{Plan, Makes, reads}
 use Rattle.tool_frame.specs.declared.status.Status.TheVariants.{Done}
+use Rattle.clic_tool.specs.Bench.{Bench, empty_bench}
 use Rattle.clic_tool.specs.Files.{image_limit, image_read}
 use Rattle.clic_tool.specs.declared.disassemble_order.DisassembleOrder.{DisassembleOrder}
 
@@ -27,5 +28,5 @@ view_disassemble d = record { image_name = d.image.now }
 abbrev pub listing_due : ImageView → Due
 listing_due image = at_once (image_text image) Done
 
-abbrev pub disassemble_plan : DisassembleWords → Plan (Unit {0})
-disassemble_plan words = reads (codes "image") image_limit image_read words.image_name (λ image. Makes (listing_due image) tt)
+abbrev pub disassemble_plan : DisassembleWords → Plan Bench
+disassemble_plan words = reads (codes "image") image_limit image_read words.image_name (λ image. Makes (listing_due image) empty_bench)

@@ -8,13 +8,22 @@ use Rattle.board_inputs.specs.declared.image_why.ImageWhy.{ImageWhy}
 use Rattle.board_inputs.specs.declared.image_why.ImageWhy.TheVariants.{BadMagic, Truncated, OutsideMemory, Overlap, TooMany, Trailing}
 use Rattle.board_inputs.specs.declared.scenario_why.ScenarioWhy.{ScenarioWhy}
 use Rattle.board_inputs.specs.declared.scenario_why.ScenarioWhy.TheVariants.{BadLine, OutOfOrder, TooMany as TooManyEvents}
+use Rattle.mem_text.specs.Reading.{Fault as MemoryFault, read_text}
+use Rattle.mem_text.specs.declared.mem_why.MemWhy.{MemWhy}
+use Rattle.mem_text.specs.declared.mem_why.MemWhy.TheVariants.{BadByte, TooMany as TooManySegments, OutsideMemory as MemoryOutside, Overlap as MemoryOverlap, Truncated as MemoryTruncated}
+use Rattle.hart_monitor.specs.ScriptReading.{Fault as ScriptFault, script_of}
+use Rattle.hart_monitor.specs.declared.command.Command.{Command}
+use Rattle.hart_monitor.specs.declared.script_why.ScriptWhy.{ScriptWhy}
+use Rattle.hart_monitor.specs.declared.script_why.ScriptWhy.TheVariants.{BadLine as BadScriptLine, TooMany as TooManyCommands}
 use Rattle.asm_forms.specs.declared.asm_why.AsmWhy.{AsmWhy}
 use Rattle.asm_forms.specs.declared.asm_why.AsmWhy.TheVariants.{Lex, UnknownMnemonic, BadOperands, UnknownLabel, DoubleLabel, OutOfReach, OutsideMemory as SourceOutsideMemory, Overlap as SourceOverlap, NoEntry, TooLarge}
 use Rattle.rv_assembler.specs.Source.{Program, Refusal as SourceFault, assembled}
 use Rattle.rv_assembler.specs.declared.assembled.Assembled.{Assembled}
 use Rattle.rv_assembler.specs.declared.assembling.TheConstants.{MAX_SOURCE}
 use Rattle.tool_frame.specs.Lines.{refused_line}
-use Rattle.tool_frame.specs.Plan.{measured}
+use Rattle.clap.specs.Words.{Text}
+use Rattle.tool_frame.specs.Plan.{Plan, measured, reads}
+use Rattle.clic_tool.specs.Bench.{Bench}
 
 -- ---- an image
 
@@ -65,6 +74,28 @@ scenario_read bytes = events_or_line (scenario_of bytes)
 abbrev pub scenario_stage : List ℕ → Result EventList (List ℕ)
 scenario_stage bytes = measured (codes "scenario") scenario_limit scenario_read bytes
 
+-- ---- a script
+
+-- a script file has at most so many bytes
+abbrev pub script_limit : ℕ
+script_limit = 65_536
+
+-- what is wrong with a script, by name
+abbrev pub script_why : ScriptWhy → List ℕ
+script_why BadScriptLine = codes "BadLine"
+script_why TooManyCommands = codes "TooMany"
+
+abbrev pub commands_or_line : Result (List Command) ScriptFault → Result (List Command) (List ℕ)
+commands_or_line (Ok commands) = Ok commands
+commands_or_line (Err fault) = Err (refused_line (codes "script") (script_why fault.why) fault.line)
+
+-- the commands of a file, or the line of its refusal
+unfoldable pub script_read : List ℕ → Result (List Command) (List ℕ)
+script_read bytes = commands_or_line (script_of bytes)
+
+abbrev pub script_stage : List ℕ → Result (List Command) (List ℕ)
+script_stage bytes = measured (codes "script") script_limit script_read bytes
+
 -- ---- a source
 
 -- what is wrong with a source, by name: of a token that can't be read, the place in its line isn't told
@@ -90,3 +121,36 @@ source_read bytes = assembled_or_line (assembled bytes)
 
 abbrev pub source_stage : List ℕ → Result Assembled (List ℕ)
 source_stage bytes = measured (codes "source") MAX_SOURCE source_read bytes
+
+-- ---- a memory text
+
+-- a memory text has at most so many bytes
+abbrev pub memory_limit : ℕ
+memory_limit = 1_048_576
+
+-- what is wrong with a memory text, by name
+abbrev pub memory_why : MemWhy → List ℕ
+memory_why BadByte = codes "BadByte"
+memory_why TooManySegments = codes "TooMany"
+memory_why MemoryOutside = codes "OutsideMemory"
+memory_why MemoryOverlap = codes "Overlap"
+memory_why MemoryTruncated = codes "Truncated"
+
+abbrev pub memory_or_line : Result ImageView MemoryFault → Result ImageView (List ℕ)
+memory_or_line (Ok image) = Ok image
+memory_or_line (Err fault) = Err (refused_line (codes "memory") (memory_why fault.why) fault.place)
+
+-- the image of a text with this entry, or the line of the text's refusal
+unfoldable pub memory_read : ℕ → List ℕ → Result ImageView (List ℕ)
+memory_read entry bytes = memory_or_line (read_text entry bytes)
+
+abbrev pub memory_stage : ℕ → List ℕ → Result ImageView (List ℕ)
+memory_stage entry bytes = measured (codes "memory") memory_limit (memory_read entry) bytes
+
+-- ---- an image and then a scenario
+
+abbrev pub scenario_plan : Text → (EventList → Plan Bench) → Plan Bench
+scenario_plan name next = reads (codes "scenario") scenario_limit scenario_read name next
+
+abbrev pub files_plan : Text → Text → (ImageView → EventList → Plan Bench) → Plan Bench
+files_plan image_name scenario_name next = reads (codes "image") image_limit image_read image_name (λ image. scenario_plan scenario_name (next image))

@@ -1,7 +1,14 @@
+pub mod Bench
 pub mod Files
 pub mod Shipped
 pub mod Run
+pub mod Chain
+pub mod Monitor
 pub mod Assemble
 pub mod Disassemble
+pub mod Mem
+pub mod Unmem
 pub mod Order
 pub mod RunCauses
+pub mod ChainCauses
+pub mod MonitorCauses

@@ -10,11 +10,12 @@ use Rattle.hart_board.specs.declared.run_end.RunEnd.TheVariants.{Halted, BudgetS
 use Rattle.board_inputs.specs.ImageLoading.{loaded}
 use Rattle.tool_frame.specs.Options.{text_rule, number_rule, flag_rule, number_in, is_flag_on}
 use Rattle.tool_frame.specs.Due.{Due, at_once}
-use Rattle.tool_frame.specs.Plan.{Plan, Makes, reads}
+use Rattle.tool_frame.specs.Plan.{Plan, Makes}
 use Rattle.tool_frame.specs.declared.status.Status.{Status}
 use Rattle.tool_frame.specs.declared.status.Status.TheVariants.{Done, BudgetSpent, SinkFailed, VectorFault}
 use Rattle.clic_tool.specs.Shipped.{shipped_meanings, shipped_board}
-use Rattle.clic_tool.specs.Files.{image_limit, image_read, scenario_limit, scenario_read}
+use Rattle.clic_tool.specs.Bench.{Bench, empty_bench}
+use Rattle.clic_tool.specs.Files.{files_plan}
 use Rattle.clic_tool.specs.declared.run_order.RunOrder.{RunOrder}
 
 -- two files, a number from 0 to 1,000,000,000, and a flag
@@ -61,8 +62,5 @@ abbrev pub run_due : RunWords → ImageView → EventList → Due
 run_due run image events = at_once (run_told run image events) (status_of (run_made image events run.bound_is).end)
 
 -- the image is read, then the scenario, and then the run is made
-abbrev pub scenario_plan : RunWords → ImageView → Plan (Unit {0})
-scenario_plan run image = reads (codes "scenario") scenario_limit scenario_read run.scenario_name (λ events. Makes (run_due run image events) tt)
-
-abbrev pub run_plan : RunWords → Plan (Unit {0})
-run_plan run = reads (codes "image") image_limit image_read run.image_name (λ image. scenario_plan run image)
+abbrev pub run_plan : RunWords → Plan Bench
+run_plan run = files_plan run.image_name run.scenario_name (λ image events. Makes (run_due run image events) empty_bench)

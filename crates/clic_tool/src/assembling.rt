@@ -1,12 +1,13 @@
 // What is written of an assembled source.
-ghost use Rattle.std.specs.Prelude.{◌≡◌, ◌++◌, false, IfOk, OnOk};
+ghost use Rattle.std.specs.Prelude.{◌≡◌, ◌++◌, IfOk, OnOk};
 ghost use Rattle.rv_assembler.specs.Symbols.{Symbol};
 ghost use Rattle.tool_frame.specs.Answers.{EndsOrWants, Follows, status_in};
+ghost use Rattle.clic_tool.specs.Bench.{empty_bench};
 ghost use Rattle.clic_tool.specs.Assemble.{symbol_line, symbols_text, program_text, program_due, assemble_plan, view_assemble};
 
 use crate::assemble_order::AssembleOrder;
+use crate::image_file::text_of_image;
 use crate::source_file::SourceFile;
-use board_inputs::write_image;
 use board_outside::{Shelf, Sink};
 use hart_words::{Line, Text, WantOfMemory};
 use rv_assembler::{Assembled, Symbols};
@@ -37,12 +38,6 @@ fn text_of_symbols(alloc: Global, symbols: &Symbols) -> Result<Text, WantOfMemor
     Ok(text)
 }
 
-fn text_of_image(alloc: Global, assembled: &Assembled) -> Result<Text, WantOfMemory>
-    ensures { IfOk result (λ text. text ≡ program_text false assembled.now) }
-{
-    write_image(alloc, &assembled.image)
-}
-
 // The labels, or the image's file.
 fn text_of_program(
     alloc: Global,
@@ -54,7 +49,7 @@ fn text_of_program(
     if symbols {
         text_of_symbols(alloc, &assembled.symbols)
     } else {
-        text_of_image(alloc, assembled)
+        text_of_image(alloc, &assembled.image)
     }
 }
 
@@ -80,8 +75,8 @@ pub fn assemble_file<F: Shelf, W: Sink>(
     shelf: &mut F,
     out: &mut W,
 ) -> Result<Status, Status>
-    ensures { Follows (status_in result) (assemble_plan (view_assemble order.now)) (F.told shelf.old) (F.told shelf.new) (W.told out.old) (W.told out.new) }
+    ensures { Follows empty_bench (status_in result) (assemble_plan (view_assemble order.now)) (F.told shelf.old) (F.told shelf.new) (W.told out.old) (W.told out.new) }
 {
-    let assembled = read_file::<SourceFile, F, W>(alloc, order.source, shelf, out)?;
+    let assembled = read_file(alloc, &SourceFile, order.source, shelf, out)?;
     Ok(write_program(alloc, order, &assembled, out))
 }

@@ -1,17 +1,29 @@
 // The command.
-ghost use Rattle.std.specs.Prelude.{◌≡◌, ℕ, ◌<◌, true, [], None, Some, IfSome};
+ghost use Rattle.std.specs.Prelude.{◌≡◌, ℕ, ◌<◌, ◌⊎◌, true, [], None, Some, IfSome};
 ghost use Rattle.board_outside.specs.Counts.{Rose};
 ghost use Rattle.board_outside.specs.Sink.{Writes};
 ghost use Rattle.hart_board.specs.declared.run_end.RunEnd.TheVariants.{Halted, BudgetSpent, VectorFault};
-ghost use Rattle.tool_frame.specs.Plan.{due_of, HoldsAll};
-ghost use Rattle.tool_frame.specs.Answers.{Follows, Misuses, IsCalm, HasDone, IsReady, Succeeds};
+ghost use Rattle.tool_frame.specs.Plan.{due_of, outcome_of, HoldsAll};
+ghost use Rattle.tool_frame.specs.Answers.{FollowsWith, Leaves, Misuses, IsCalm, HasDone, IsReady, Succeeds};
 ghost use Rattle.tool_frame.specs.Causes.{NoneRose, AtFile, IsAbsentFile, IsFailedFile, IsRefusedFile, StopsShort};
+ghost use Rattle.chain_core.specs.declared.chain_end.ChainEnd.TheVariants as ends;
+ghost use Rattle.chain_core.specs.declared.broken.Broken.{Broken as BrokenBy};
+ghost use Rattle.clic_tool.specs.Bench.{empty_bench};
 ghost use Rattle.clic_tool.specs.Run.{RunWords};
-ghost use Rattle.clic_tool.specs.Order.{Runs, order_of, view, plan_of};
+ghost use Rattle.clic_tool.specs.Chain.{ChainWords};
+ghost use Rattle.clic_tool.specs.Monitor.{MonitorWords};
+ghost use Rattle.clic_tool.specs.Order.{Runs, Chains, Monitors, order_of, view, plan_of};
 ghost use Rattle.clic_tool.specs.RunCauses.{RanTo};
+ghost use Rattle.clic_tool.specs.ChainCauses.{ChainedTo};
+ghost use Rattle.clic_tool.specs.MonitorCauses.{WantsInScript};
 
 use crate::assembling::assemble_file;
+use crate::bench::Bench;
+use crate::chaining::chain_files;
 use crate::disassembling::disassemble_file;
+use crate::mem_reading::unmem_file;
+use crate::mem_writing::mem_file;
+use crate::monitoring::monitor_files;
 use crate::order::Order;
 use crate::order_reading::read_order;
 use crate::running::run_files;
@@ -20,43 +32,68 @@ use std::alloc::Global;
 use tool_frame::{Status, end_usage, status_in};
 
 // Does what was asked for.
-fn follow<F: Shelf, W: Sink>(alloc: Global, order: &Order<'_>, shelf: &mut F, out: &mut W) -> Status
-    ensures { Follows result (plan_of (Some (view order.now))) (F.told shelf.old) (F.told shelf.new) (W.told out.old) (W.told out.new) }
+fn follow<F: Shelf, W: Sink>(
+    alloc: Global,
+    order: &Order<'_>,
+    shelf: &mut F,
+    bench: &mut Bench,
+    out: &mut W,
+) -> Status
+    requires empty { bench.old ≡ empty_bench }
+    ensures { FollowsWith empty_bench result (plan_of (Some (view order.now))) (F.told shelf.old) (F.told shelf.new) (W.told out.old) (W.told out.new) bench.new }
 {
     match order {
         Order::Run(run) => status_in(run_files(alloc, run, shelf, out)),
+        Order::Chain(chain) => status_in(chain_files(alloc, chain, shelf, bench, out)),
+        Order::Monitor(script) => status_in(monitor_files(alloc, script, shelf, out)),
         Order::Assemble(assembly) => status_in(assemble_file(alloc, assembly, shelf, out)),
         Order::Disassemble(disassembly) => {
             status_in(disassemble_file(alloc, disassembly, shelf, out))
         }
+        Order::Mem(mem) => status_in(mem_file(alloc, mem, shelf, out)),
+        Order::Unmem(unmem) => status_in(unmem_file(alloc, unmem, shelf, out)),
     }
 }
 
 // Does what the words say.
-fn answer<F: Shelf, W: Sink>(alloc: Global, words: &Words, shelf: &mut F, out: &mut W) -> Status
-    ensures { Follows result (plan_of (order_of words.now)) (F.told shelf.old) (F.told shelf.new) (W.told out.old) (W.told out.new) }
+fn answer<F: Shelf, W: Sink>(
+    alloc: Global,
+    words: &Words,
+    shelf: &mut F,
+    bench: &mut Bench,
+    out: &mut W,
+) -> Status
+    requires empty { bench.old ≡ empty_bench }
+    ensures { FollowsWith empty_bench result (plan_of (order_of words.now)) (F.told shelf.old) (F.told shelf.new) (W.told out.old) (W.told out.new) bench.new }
 {
     match read_order(alloc, words) {
-        Ok(Some(order)) => follow(alloc, &order, shelf, out),
+        Ok(Some(order)) => follow(alloc, &order, shelf, bench, out),
         Ok(None) => end_usage(out),
         Err(_) => Status::Memory,
     }
 }
 
-/// Does what the words say, and answers how it ended. The words are those after the program's name.
+/// Does what the words say, and answers how it ended. The words are those after the program's name. What the
+/// bench held before is dropped.
 pub fn clic_main<F: Shelf, W: Sink>(
     alloc: Global,
     words: &Words,
     shelf: &mut F,
+    bench: &mut Bench,
     out: &mut W,
 ) -> Status
     // Words that are no command.
     ensures usage { order_of words.now ≡ None → Misuses result (F.told shelf.old) (F.told shelf.new) (W.told out.old) (W.told out.new) }
-    // Any words: what the command does with its files, by what the shelf gave, with every cause.
-    ensures command { Follows result (plan_of (order_of words.now)) (F.told shelf.old) (F.told shelf.new) (W.told out.old) (W.told out.new) }
+    // Any words: what the command does with its files, by what the shelf gave, with every cause, and the boards that
+    // it leaves.
+    ensures command { FollowsWith empty_bench result (plan_of (order_of words.now)) (F.told shelf.old) (F.told shelf.new) (W.told out.old) (W.told out.new) bench.new }
     // Where no fault was counted, it is what the files give that the shelf holds, unless memory was wanting.
     ensures due { IsCalm (F.told shelf.old).faults (F.told shelf.new).faults → IsCalm (W.told out.old).faults (W.told out.new).faults
         → IfSome (F.told shelf.old).files (λ files. HasDone result (W.told out.old).written (W.told out.new).written (due_of (plan_of (order_of words.now)) files)) }
+    // The boards that a caller may look at are then those of the files that the shelf holds, where their chains ended:
+    // with the status that is due, and with none else.
+    ensures boards { IsCalm (F.told shelf.old).faults (F.told shelf.new).faults
+        → IfSome (F.told shelf.old).files (λ files. Leaves empty_bench result (outcome_of (plan_of (order_of words.now)) files) bench.new) }
     // What is due by the files of a steady shelf, and fits the sink's room, is written whole, unless memory was wanting.
     ensures complete { (ready : IsReady (plan_of (order_of words.now)) (F.told shelf.old) (W.told out.old))
         → Succeeds (plan_of (order_of words.now)) (F.told shelf.old) (W.told out.old) (W.told out.new) ready result }
@@ -65,16 +102,22 @@ pub fn clic_main<F: Shelf, W: Sink>(
     ensures complete_counts { (ready : IsReady (plan_of (order_of words.now)) (F.told shelf.old) (W.told out.old))
         → HoldsAll (plan_of (order_of words.now)) ready.files → NoneRose (F.told shelf.old) (F.told shelf.new) (W.told out.old) (W.told out.new) }
 
-    // Each status comes only for its cause. Memory is free, and then nothing is written.
+    // Each status comes only for its cause. Memory is free, and then nothing is written, but in a script some of its
+    // commands' texts.
     ensures status_done { result ≡ Status.Done → NoneRose (F.told shelf.old) (F.told shelf.new) (W.told out.old) (W.told out.new) }
     ensures status_done_halted { (run : RunWords) → order_of words.now ≡ Some (Runs run) → result ≡ Status.Done → RanTo (λ end. (code : ℕ) × (steps : ℕ) × (end ≡ Halted code steps)) (order_of words.now) (F.told shelf.old) (F.told shelf.new) }
-    ensures status_budget_spent { result ≡ Status.BudgetSpent → RanTo (λ end. end ≡ BudgetSpent) (order_of words.now) (F.told shelf.old) (F.told shelf.new) }
+    ensures status_done_chained { (chain : ChainWords) → order_of words.now ≡ Some (Chains chain) → result ≡ Status.Done → ChainedTo (λ end. (steps : ℕ) × (bodies : ℕ) × (services : ℕ) × (end ≡ ends.Done steps bodies services)) (order_of words.now) (F.told shelf.old) (F.told shelf.new) }
+    ensures status_budget_spent { result ≡ Status.BudgetSpent
+        → RanTo (λ end. end ≡ BudgetSpent) (order_of words.now) (F.told shelf.old) (F.told shelf.new)
+        ⊎ ChainedTo (λ end. end ≡ ends.BudgetSpent) (order_of words.now) (F.told shelf.old) (F.told shelf.new) }
+    ensures status_broken { result ≡ Status.Broken → ChainedTo (λ end. (kind : BrokenBy) × (bodies : ℕ) × (end ≡ ends.Broken kind bodies)) (order_of words.now) (F.told shelf.old) (F.told shelf.new) }
     ensures status_usage { result ≡ Status.Usage → order_of words.now ≡ None }
     ensures status_absent { result ≡ Status.Absent → AtFile (IsAbsentFile (W.told out.old) (W.told out.new)) (plan_of (order_of words.now)) (F.told shelf.old) (F.told shelf.new) }
     ensures status_shelf_failed { result ≡ Status.ShelfFailed → AtFile (IsFailedFile (W.told out.old) (W.told out.new)) (plan_of (order_of words.now)) (F.told shelf.old) (F.told shelf.new) }
     ensures status_refused { result ≡ Status.Refused → AtFile (IsRefusedFile (W.told out.old) (W.told out.new)) (plan_of (order_of words.now)) (F.told shelf.old) (F.told shelf.new) }
     ensures status_sink_failed { result ≡ Status.SinkFailed → Rose (W.told out.old).faults (W.told out.new).faults }
-    ensures status_memory { result ≡ Status.Memory → Writes true (W.told out.old) (W.told out.new) [] }
+    ensures status_memory { ((script : MonitorWords) → order_of words.now ≡ Some (Monitors script) → ⊥) → result ≡ Status.Memory → Writes true (W.told out.old) (W.told out.new) [] }
+    ensures status_memory_in_script { (script : MonitorWords) → order_of words.now ≡ Some (Monitors script) → result ≡ Status.Memory → WantsInScript script (F.told shelf.old) (F.told shelf.new) (W.told out.old) (W.told out.new) }
     ensures status_vector_fault { result ≡ Status.VectorFault → RanTo (λ end. (id : ℕ) × (steps : ℕ) × (end ≡ VectorFault id steps)) (order_of words.now) (F.told shelf.old) (F.told shelf.new) }
 
     // Faults of the outside decide the status, those of the sink first. Where they rose, a front of the text due was
@@ -86,5 +129,6 @@ pub fn clic_main<F: Shelf, W: Sink>(
     ensures absences_rose { IsCalm (W.told out.old).faults (W.told out.new).faults
         → (F.told shelf.old).absences < (F.told shelf.new).absences → result ≡ Status.Absent }
 {
-    answer(alloc, words, shelf, out)
+    *bench = Bench::new();
+    answer(alloc, words, shelf, bench, out)
 }

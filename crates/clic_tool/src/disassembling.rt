@@ -1,5 +1,6 @@
 // What is written of an image.
 ghost use Rattle.tool_frame.specs.Answers.{EndsOrWants, Follows, status_in};
+ghost use Rattle.clic_tool.specs.Bench.{empty_bench};
 ghost use Rattle.clic_tool.specs.Disassemble.{listing_due, disassemble_plan, view_disassemble};
 
 use crate::disassemble_order::DisassembleOrder;
@@ -27,8 +28,8 @@ pub fn disassemble_file<F: Shelf, W: Sink>(
     shelf: &mut F,
     out: &mut W,
 ) -> Result<Status, Status>
-    ensures { Follows (status_in result) (disassemble_plan (view_disassemble disassembly.now)) (F.told shelf.old) (F.told shelf.new) (W.told out.old) (W.told out.new) }
+    ensures { Follows empty_bench (status_in result) (disassemble_plan (view_disassemble disassembly.now)) (F.told shelf.old) (F.told shelf.new) (W.told out.old) (W.told out.new) }
 {
-    let image = read_file::<ImageFile, F, W>(alloc, disassembly.image, shelf, out)?;
+    let image = read_file(alloc, &ImageFile, disassembly.image, shelf, out)?;
     Ok(write_listing(alloc, &image, out))
 }

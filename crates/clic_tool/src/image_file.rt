@@ -1,9 +1,11 @@
 // Image files.
-ghost use Rattle.std.specs.Prelude.{◌≡◌, ◌≤◌, length};
+ghost use Rattle.std.specs.Prelude.{◌≡◌, ◌≤◌, length, IfOk};
+ghost use Rattle.board_inputs.specs.ImageFile.{image_text};
 ghost use Rattle.clic_tool.specs.Files.{image_why};
 
-use board_inputs::{ImageError, ImageWhy, read_image};
+use board_inputs::{ImageError, ImageWhy, read_image, write_image};
 use hart_memory::Image;
+use hart_words::{Text, WantOfMemory};
 use std::alloc::Global;
 use tool_frame::{FileKind, Stop, line_of_refusal};
 
@@ -25,6 +27,13 @@ fn image_why(why: ImageWhy) -> &'static str
     }
 }
 
+/// The file of an image.
+pub fn text_of_image(alloc: Global, image: &Image) -> Result<Text, WantOfMemory>
+    ensures { IfOk result (λ text. text ≡ image_text image.now) }
+{
+    write_image(alloc, image)
+}
+
 impl FileKind for ImageFile {
     ghost use Rattle.std.specs.Prelude.{codes};
     ghost use Rattle.std.proofs.Common.{arith};
@@ -34,7 +43,7 @@ impl FileKind for ImageFile {
 
     ghost role = { codes "image" };
 
-    ghost stage = { image_read };
+    ghost stage = { λ _. image_read };
 
     ghost LIMIT = { image_limit };
 
@@ -45,7 +54,7 @@ impl FileKind for ImageFile {
     }
 
     #[tactic(auto, unfolding(crate::specs::Files::image_read))]
-    fn read(alloc: Global, bytes: &[u8]) -> Result<Image, Stop> {
+    fn read(&self, alloc: Global, bytes: &[u8]) -> Result<Image, Stop> {
         match read_image(alloc, bytes) {
             Ok(image) => Ok(image),
             Err(ImageError::Memory) => Err(Stop::Memory),

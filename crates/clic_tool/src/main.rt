@@ -1,20 +1,37 @@
-// The commands `asm`, `disasm` and `run`.
+// The commands `asm`, `disasm`, `run`, `chain`, `monitor`, `mem` and `unmem`.
 #![tactic(auto)]
 
 mod assemble_command;
 mod assemble_order;
 mod assembling;
+mod bench;
+#[cfg(test)]
+mod bench_tests;
+#[cfg(test)]
+mod board_tests;
+mod chain_command;
+mod chain_order;
+mod chaining;
 mod command;
 mod disassemble_command;
 mod disassemble_order;
 mod disassembling;
 mod image_file;
+mod mem_command;
+mod mem_order;
+mod mem_reading;
+mod mem_writing;
+mod memory_file;
+mod monitor_command;
+mod monitor_order;
+mod monitoring;
 mod order;
 mod order_reading;
 mod run_command;
 mod run_order;
 mod running;
 mod scenario_file;
+mod script_file;
 #[cfg(test)]
 mod shelf_tests;
 #[cfg(test)]
@@ -22,7 +39,10 @@ mod sink_tests;
 mod source_file;
 #[cfg(test)]
 mod tests;
+mod unmem_command;
+mod unmem_order;
 
+use bench::Bench;
 use board_outside::{FileShelf, StdSink, Words};
 use command::clic_main;
 use std::process::ExitCode;
@@ -54,7 +74,8 @@ fn main(rt: HostRuntime) -> ExitCode {
     }
     let mut shelf = FileShelf::new(&rt);
     let mut out = StdSink::new(&rt);
-    let status = clic_main(rt.alloc(), &words, &mut shelf, &mut out);
+    let mut bench = Bench::new();
+    let status = clic_main(rt.alloc(), &words, &mut shelf, &mut bench, &mut out);
     match out.finish() {
         Ok(()) => ExitCode::from(status.code()),
         Err(_) => ExitCode::from(Status::SinkFailed.code()),

@@ -5,9 +5,13 @@ ghost use Rattle.tool_frame.specs.Options.{starts_with};
 ghost use Rattle.clic_tool.specs.Order.{order_of, view};
 
 use crate::assemble_command::read_assemble;
+use crate::chain_command::read_chain;
 use crate::disassemble_command::read_disassemble;
+use crate::mem_command::read_mem;
+use crate::monitor_command::read_monitor;
 use crate::order::Order;
 use crate::run_command::read_run;
+use crate::unmem_command::read_unmem;
 use board_outside::Words;
 use hart_words::WantOfMemory;
 use std::alloc::Global;
@@ -35,6 +39,16 @@ pub fn read_order<'a>(alloc: Global, words: &'a Words) -> Result<Option<Order<'a
             Some(order) => Ok(Some(Order::Run(order))),
             None => Ok(None),
         }
+    } else if names(words, "chain") {
+        match read_chain(alloc, words.as_slice())? {
+            Some(order) => Ok(Some(Order::Chain(order))),
+            None => Ok(None),
+        }
+    } else if names(words, "monitor") {
+        match read_monitor(alloc, words.as_slice())? {
+            Some(order) => Ok(Some(Order::Monitor(order))),
+            None => Ok(None),
+        }
     } else if names(words, "asm") {
         match read_assemble(alloc, words.as_slice())? {
             Some(order) => Ok(Some(Order::Assemble(order))),
@@ -43,6 +57,16 @@ pub fn read_order<'a>(alloc: Global, words: &'a Words) -> Result<Option<Order<'a
     } else if names(words, "disasm") {
         match read_disassemble(alloc, words.as_slice())? {
             Some(order) => Ok(Some(Order::Disassemble(order))),
+            None => Ok(None),
+        }
+    } else if names(words, "mem") {
+        match read_mem(alloc, words.as_slice())? {
+            Some(order) => Ok(Some(Order::Mem(order))),
+            None => Ok(None),
+        }
+    } else if names(words, "unmem") {
+        match read_unmem(alloc, words.as_slice())? {
+            Some(order) => Ok(Some(Order::Unmem(order))),
             None => Ok(None),
         }
     } else {

@@ -5,6 +5,7 @@ ghost use Rattle.hart_board.specs.Run.{every_step, run_of, is_whole};
 ghost use Rattle.hart_board.specs.Text.{run_text};
 ghost use Rattle.clic_tool.specs.Shipped.{shipped_meanings, shipped_board};
 ghost use Rattle.clic_tool.specs.Run.{run_due, run_plan, status_of, view_run};
+ghost use Rattle.clic_tool.specs.Bench.{empty_bench};
 ghost use Rattle.tool_frame.specs.Answers.{EndsOrWants, Follows, status_in};
 
 use crate::image_file::ImageFile;
@@ -33,7 +34,7 @@ fn status_of_end(end: &RunEnd) -> Status
 
 // The board with the shipped devices, at reset, with a controller of a shape.
 #[tactic(auto, unfolding(crate::specs::Shipped::shipped_board, crate::specs::Shipped::shipped_meanings))]
-fn new_board(alloc: Global, shape: Shape) -> Result<Board<AllDevices>, WantOfMemory>
+pub fn new_board(alloc: Global, shape: Shape) -> Result<Board<AllDevices>, WantOfMemory>
     ensures { IfOk result (λ board. board ≡ shipped_board shape) }
 {
     let devices = shipped(alloc)?;
@@ -42,6 +43,7 @@ fn new_board(alloc: Global, shape: Shape) -> Result<Board<AllDevices>, WantOfMem
 
 // Runs the board with the shipped devices.
 #[tactic(auto, unfolding(crate::specs::Shipped::shipped_meanings))]
+#[inline(never)]
 fn run_shipped<W: Sink>(
     board: &mut Board<AllDevices>,
     events: &Events,
@@ -82,9 +84,9 @@ pub fn run_files<F: Shelf, W: Sink>(
     shelf: &mut F,
     out: &mut W,
 ) -> Result<Status, Status>
-    ensures { Follows (status_in result) (run_plan (view_run order.now)) (F.told shelf.old) (F.told shelf.new) (W.told out.old) (W.told out.new) }
+    ensures { Follows empty_bench (status_in result) (run_plan (view_run order.now)) (F.told shelf.old) (F.told shelf.new) (W.told out.old) (W.told out.new) }
 {
-    let image = read_file::<ImageFile, F, W>(alloc, order.image, shelf, out)?;
-    let events = read_file::<ScenarioFile, F, W>(alloc, order.scenario, shelf, out)?;
+    let image = read_file(alloc, &ImageFile, order.image, shelf, out)?;
+    let events = read_file(alloc, &ScenarioFile, order.scenario, shelf, out)?;
     Ok(run_image(alloc, order, &image, &events, out))
 }

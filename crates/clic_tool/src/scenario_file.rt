@@ -31,7 +31,7 @@ impl FileKind for ScenarioFile {
 
     ghost role = { codes "scenario" };
 
-    ghost stage = { scenario_read };
+    ghost stage = { λ _. scenario_read };
 
     ghost LIMIT = { scenario_limit };
 
@@ -42,7 +42,7 @@ impl FileKind for ScenarioFile {
     }
 
     #[tactic(auto, unfolding(crate::specs::Files::scenario_read))]
-    fn read(alloc: Global, bytes: &[u8]) -> Result<Events, Stop> {
+    fn read(&self, alloc: Global, bytes: &[u8]) -> Result<Events, Stop> {
         match read_scenario(alloc, bytes) {
             Ok(events) => Ok(events),
             Err(ScenarioError::Memory) => Err(Stop::Memory),

@@ -1,5 +1,5 @@
 // Files that can't be read.
-use crate::tests::{Case, HALTS, NEVER, REPORT, answers, given, given_source};
+use crate::tests::{Case, HALTS, NEVER, REPORT, answers, given};
 use std::test::Fail;
 use tool_frame::Status;
 
@@ -41,27 +41,19 @@ fn a_refused_image_hides_a_scenario_that_fails(rt: HostRuntime) -> Result<(), Fa
 }
 
 #[test]
-fn a_source_and_an_image_that_fail(rt: HostRuntime) -> Result<(), Fail> {
-    let source = Case {
-        fetch: 1,
-        ..given_source(&["asm", "p.s"], b".entry 0\n")
-    };
-    answers(
-        &rt,
-        rt.alloc(),
-        &source,
-        Status::ShelfFailed,
-        b"shelf failed p.s\n",
-    )?;
-    let image = Case {
-        fetch: 1,
-        ..given(&["disasm", "i.img"], &HALTS, b"")
-    };
-    answers(
-        &rt,
-        rt.alloc(),
-        &image,
-        Status::ShelfFailed,
-        b"shelf failed i.img\n",
-    )
+fn the_only_fetch_fails(rt: HostRuntime) -> Result<(), Fail> {
+    let cases: [(&[&str], &[u8]); 4] = [
+        (&["asm", "p.s"], b"shelf failed p.s\n"),
+        (&["disasm", "i.img"], b"shelf failed i.img\n"),
+        (&["mem", "i.img"], b"shelf failed i.img\n"),
+        (&["unmem", "i.mem", "0"], b"shelf failed i.mem\n"),
+    ];
+    for (words, text) in cases {
+        let failing = Case {
+            fetch: 1,
+            ..given(words, &HALTS, b"")
+        };
+        answers(&rt, rt.alloc(), &failing, Status::ShelfFailed, text)?;
+    }
+    Ok(())
 }

@@ -8,6 +8,8 @@ const WORDS: [&str; 4] = ["run", "i.img", "s.txt", "100"];
 
 const TRACED: [&str; 5] = ["run", "i.img", "s.txt", "100", "--trace"];
 
+const SCRIPTED: [&str; 3] = ["monitor", "i.img", "s.txt"];
+
 // The command of these words, with the put of this number failing, writes a front of this text, or all of it.
 fn stops_at(
     rt: &impl Abort,
@@ -166,4 +168,49 @@ fn the_put_of_a_listing_fails(rt: HostRuntime) -> Result<(), Fail> {
         Status::SinkFailed,
         b".entry 0x00000000\n.o",
     )
+}
+
+// The memory text of the image that halts.
+const MEMORY: &[u8] = b"@00000000\n13 05 50 00 B7 32 00 10 23 A0 A2 00\n";
+
+// A memory text is one put.
+#[test]
+fn the_put_of_a_memory_text_fails(rt: HostRuntime) -> Result<(), Fail> {
+    assert_eq!(rt; failures(&rt, rt.alloc(), &["mem", "i.img"], MEMORY)?, 1);
+    Ok(())
+}
+
+const UNMEM: [&str; 3] = ["unmem", "p.s", "0"];
+
+// And so is its image, of which a front was written where the room is too small.
+#[test]
+fn the_put_of_its_image_fails(rt: HostRuntime) -> Result<(), Fail> {
+    let whole = given_source(&UNMEM, MEMORY);
+    answers(&rt, rt.alloc(), &whole, Status::Done, &HALTS)?;
+    let failing = Case { put: 1, ..whole };
+    answers(&rt, rt.alloc(), &failing, Status::SinkFailed, b"")?;
+    let small = Case { room: 9, ..whole };
+    answers(
+        &rt,
+        rt.alloc(),
+        &small,
+        Status::SinkFailed,
+        b"CLC1\0\0\0\0\x01",
+    )
+}
+
+// The monitor puts a line at a time.
+#[test]
+fn each_put_of_a_script_fails_in_turn(rt: HostRuntime) -> Result<(), Fail> {
+    let text = b"i 00000000 00500513\nmem 00000000 13055000\nback 00000000\nstop halt 0000000C\n";
+    let cases = [(1, 0), (2, 20), (3, 42), (4, 56)];
+    for (put, length) in cases {
+        let failing = Case {
+            put,
+            ..given(&SCRIPTED, &HALTS, b"step 1\nmem 0 4\nback\nrun 10\n")
+        };
+        let front = text.get(..length).unwrap_or(b"");
+        answers(&rt, rt.alloc(), &failing, Status::SinkFailed, front)?;
+    }
+    Ok(())
 }

@@ -38,7 +38,7 @@ impl FileKind for SourceFile {
 
     ghost role = { codes "source" };
 
-    ghost stage = { source_read };
+    ghost stage = { λ _. source_read };
 
     ghost LIMIT = { MAX_SOURCE };
 
@@ -49,7 +49,7 @@ impl FileKind for SourceFile {
     }
 
     #[tactic(auto, unfolding(crate::specs::Files::source_read))]
-    fn read(alloc: Global, bytes: &[u8]) -> Result<Assembled, Stop> {
+    fn read(&self, alloc: Global, bytes: &[u8]) -> Result<Assembled, Stop> {
         match assemble(alloc, bytes) {
             Ok(assembled) => Ok(assembled),
             Err(AsmError::Memory) => Err(Stop::Memory),

@@ -8,7 +8,8 @@ use tool_frame::Status;
 /// No call has this number.
 pub const NEVER: u64 = 100_000;
 
-pub const USAGE: &[u8] = b"usage: clic_tool asm | disasm | run | chain | monitor | gen\n";
+pub const USAGE: &[u8] =
+    b"usage: clic_tool asm | disasm | run | chain | monitor | gen | mem | unmem\n";
 
 /// addi a0, zero, 5; lui t0, 0x10003; sw a0, 0(t0), in one segment at 0
 pub const HALTS: [u8; 32] = [
@@ -129,7 +130,8 @@ pub fn answered(alloc: Global, case: &Case) -> Result<(Status, MemorySink), Fail
     let mut shelf = shelf_of(alloc, case)?;
     let mut out = MemorySink::new(alloc, case.room)?;
     out.fail_at(case.put)?;
-    let status = clic_main(alloc, &words, &mut shelf, &mut out);
+    let mut bench = Bench::new();
+    let status = clic_main(alloc, &words, &mut shelf, &mut bench, &mut out);
     Ok((status, out))
 }
 

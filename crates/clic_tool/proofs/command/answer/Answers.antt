@@ -1,5 +1,6 @@
+use Rattle.clic_tool.specs.Bench.{empty_bench}
 use Rattle.std.proofs.Common.{◌≡◌, Option, Some, None, subst, inl}
-use Rattle.tool_frame.specs.Answers.{Follows}
+use Rattle.tool_frame.specs.Answers.{FollowsWith}
 use Rattle.tool_frame.proofs.Ends.{lacks, makes}
 use Rattle.clic_tool.specs.Order.{Order, order_of, view, plan_of}
 use Rattle.clic_tool.proofs.command.answer.Goals as goal
@@ -7,12 +8,12 @@ use Rattle.clic_tool.proofs.command.answer.Goals as goal
 pub returns-in-Ok-Some : goal.returns-in-Ok-Some
 returns-in-Ok-Some g c =
     let told : Some (view c.in-Ok-Some.order) ≡ order_of c.args.words.now = rw c.in-Ok-Some.field-0-is at c.in-Ok-Some.ensures in
-    subst (λ (o : Option Order). Follows c.follow.result (plan_of o) (g.F.Shelf.told c.args.shelf.now) (g.F.Shelf.told c.follow.new.shelf) (g.W.Sink.told c.args.out.now) (g.W.Sink.told c.follow.new.out)) told c.follow.ensures
+    subst (λ (o : Option Order). FollowsWith empty_bench c.follow.result (plan_of o) (g.F.Shelf.told c.args.shelf.now) (g.F.Shelf.told c.follow.new.shelf) (g.W.Sink.told c.args.out.now) (g.W.Sink.told c.follow.new.out) c.follow.new.bench) told c.follow.ensures
 
 pub returns-in-Ok-None : goal.returns-in-Ok-None
 returns-in-Ok-None g c =
     let told : None ≡ order_of c.args.words.now = rw c.in-Ok-None.field-0-is at c.in-Ok-None.ensures in
-    subst (λ (o : Option Order). Follows c.end_usage.result (plan_of o) (g.F.Shelf.told c.args.shelf.now) (g.F.Shelf.told c.args.shelf.now) (g.W.Sink.told c.args.out.now) (g.W.Sink.told c.end_usage.new.out)) told (makes _ (inl c.end_usage.ensures))
+    subst (λ (o : Option Order). FollowsWith empty_bench c.end_usage.result (plan_of o) (g.F.Shelf.told c.args.shelf.now) (g.F.Shelf.told c.args.shelf.now) (g.W.Sink.told c.args.out.now) (g.W.Sink.told c.end_usage.new.out) c.args.bench.now) told (rw c.requires.empty (makes empty_bench _ (inl c.end_usage.ensures)))
 
 pub returns-in-Err : goal.returns-in-Err
-returns-in-Err g c = lacks tt _ _ _
+returns-in-Err g c = rw c.requires.empty (lacks empty_bench _ _ _)

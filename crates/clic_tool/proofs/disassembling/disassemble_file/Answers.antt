@@ -1,6 +1,7 @@
 use Rattle.std.proofs.lemmas.Result.{err_from_is_err_and}
 use Rattle.tool_frame.specs.Plan.{Makes}
 use Rattle.tool_frame.proofs.Ends.{read_on, read_ended, makes}
+use Rattle.clic_tool.specs.Bench.{empty_bench}
 use Rattle.clic_tool.specs.Files.{image_limit, image_stage}
 use Rattle.clic_tool.specs.Disassemble.{listing_due}
 use Rattle.clic_tool.proofs.disassembling.disassemble_file.Goals as goal
@@ -8,8 +9,8 @@ use Rattle.clic_tool.proofs.disassembling.disassemble_file.Goals as goal
 pub returns-in_err-image : goal.returns-in_err-image
 returns-in_err-image g c =
     let p = err_from_is_err_and c.from_residual.result c.from_residual.ensures.1 in
-    rw (p.1, p.2) (read_ended tt _ c.args.disassembly.now.image.now image_limit image_stage (λ image. Makes (listing_due image) tt) _ _ _ _ c.in_err-image.ensures)
+    rw (p.1, p.2) (read_ended empty_bench _ c.args.disassembly.now.image.now image_limit image_stage (λ image. Makes (listing_due image) empty_bench) _ _ _ _ c.in_err-image.ensures)
 
 pub returns : goal.returns
 returns g c =
-    read_on tt _ c.args.disassembly.now.image.now image_limit image_stage (λ image. Makes (listing_due image) tt) _ _ _ _ _ _ _ tt c.in_ok-image.ensures (makes _ c.write_listing.ensures)
+    read_on empty_bench _ c.args.disassembly.now.image.now image_limit image_stage (λ image. Makes (listing_due image) empty_bench) _ _ _ _ _ _ _ empty_bench c.in_ok-image.ensures (makes empty_bench _ c.write_listing.ensures)

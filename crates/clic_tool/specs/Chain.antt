@@ -1,0 +1,110 @@
+-- The command `chain`: its words, and what it does with its files.
+use Rattle.std.specs.Prelude.{ℕ, zero, suc, ◌+◌, ◌-◌, List, [], ◌++◌, Bool, Option, Some, None, codes, unwrap_or, option_map, if◌then◌else◌}
+use Rattle.std.specs.Str.{bytes_eq}
+use Rattle.clap.specs.Words.{App, Row, Text, first_of, one_of, new_app, with_rule}
+use Rattle.hart_words.specs.Hexadecimal.{hex8}
+use Rattle.hart_memory.specs.Image.{SegmentView, ImageView}
+use Rattle.hart_board.specs.State.{State}
+use Rattle.hart_board.specs.Event.{EventList}
+use Rattle.board_inputs.specs.ImageLoading.{loaded}
+use Rattle.chain_core.specs.Slot.{base, slot_end, is_covered}
+use Rattle.chain_core.specs.Start.{installed}
+use Rattle.chain_core.specs.Chain.{chain_end, board_after, chain_text}
+use Rattle.chain_core.specs.declared.dispatcher.Dispatcher.{Dispatcher}
+use Rattle.chain_core.specs.declared.dispatcher.Dispatcher.TheVariants.{Looping, Returning}
+use Rattle.chain_core.specs.declared.chain_end.ChainEnd.{ChainEnd}
+use Rattle.chain_core.specs.declared.chain_end.ChainEnd.TheVariants.{Done as done, BudgetSpent as budget_spent, SinkFailed as sink_failed, Broken as broken}
+use Rattle.tool_frame.specs.Options.{text_rule, number_rule, flag_rule, number_in, is_flag_on}
+use Rattle.tool_frame.specs.Due.{Due, at_once}
+use Rattle.tool_frame.specs.Plan.{Plan, Makes, Refuses}
+use Rattle.tool_frame.specs.declared.status.Status.{Status}
+use Rattle.tool_frame.specs.declared.status.Status.TheVariants.{Done, BudgetSpent, SinkFailed, Broken}
+use Rattle.clic_tool.specs.Shipped.{shipped_meanings, shipped_board}
+use Rattle.clic_tool.specs.Bench.{Bench}
+use Rattle.clic_tool.specs.Files.{files_plan}
+use Rattle.clic_tool.specs.declared.chain_order.ChainOrder.{ChainOrder}
+
+-- two files, a dispatcher's name, a number from 0 to 1,000,000,000, and a flag
+abbrev pub chain_app : App
+chain_app = with_rule (with_rule (with_rule (with_rule (with_rule (new_app (codes "chain")) (text_rule (codes "IMAGE"))) (text_rule (codes "SCENARIO"))) (text_rule (codes "DISPATCHER"))) (number_rule (codes "BOUND") 0 1_000_000_000)) (flag_rule (codes "trace"))
+
+-- the files, the dispatcher, the bound, and whether a trace is wanted
+pub record ChainWords : Type 0 where
+  pub image_name : Text
+  pub scenario_name : Text
+  pub dispatcher_is : Dispatcher
+  pub bound_is : ℕ
+  pub traces : Bool
+
+-- the dispatcher of that name
+abbrev pub dispatcher_of : Text → Option Dispatcher
+dispatcher_of name = if bytes_eq name (codes "looping") then Some Looping else (if bytes_eq name (codes "returning") then Some Returning else None)
+
+-- what clap finds in the words, which are refused where there is no dispatcher of that name
+unfoldable pub chain_in : List Row → Option ChainWords
+chain_in rows = option_map (λ d. record {
+  image_name = unwrap_or (first_of (codes "IMAGE") rows) [];
+  scenario_name = unwrap_or (first_of (codes "SCENARIO") rows) [];
+  dispatcher_is = d;
+  bound_is = unwrap_or (number_in (one_of (codes "BOUND") rows)) 0;
+  traces = is_flag_on (one_of (codes "trace") rows);
+}) (dispatcher_of (unwrap_or (first_of (codes "DISPATCHER") rows) []))
+
+-- the same, without where the names lie
+abbrev pub view_chain : ChainOrder → ChainWords
+view_chain c = record { image_name = c.image.now; scenario_name = c.scenario.now; dispatcher_is = c.dispatcher; bound_is = c.bound; traces = c.trace }
+
+-- ---- the slot
+
+-- the least of so many addresses that segments cover
+unfoldable pub least_from : List SegmentView → ℕ → ℕ → Option ℕ
+least_from segments at zero = None
+least_from segments at (suc n) = if is_covered segments at then Some at else least_from segments (at + 1) n
+
+-- the least address of the slot that an image covers
+abbrev pub taken_at : ImageView → Option ℕ
+taken_at image = least_from image.segments base (slot_end - base)
+
+unfoldable pub slot_line : ℕ → List ℕ
+slot_line at = codes "refused image SlotTaken " ++ hex8 at ++ codes "\n"
+
+-- an image that covers the slot is refused
+abbrev pub unless_taken : Option ℕ → Plan Bench → Plan Bench
+unless_taken None next = next
+unless_taken (Some at) next = Refuses (slot_line at)
+
+-- ---- the chain
+
+-- the status of a chain that ended so
+abbrev pub status_of : ChainEnd → Status
+status_of (done steps bodies services) = Done
+status_of budget_spent = BudgetSpent
+status_of (broken kind bodies) = Broken
+status_of sink_failed = SinkFailed
+
+-- the board from which it starts: at reset in the scenario's shape, with the image's bytes and its entry, and the dispatcher in the slot
+abbrev pub chain_board : Dispatcher → ImageView → EventList → State
+chain_board d image events = installed d (loaded image (shipped_board events.shape))
+
+-- how it ends
+abbrev pub chain_made : ChainWords → ImageView → EventList → ChainEnd
+chain_made chain image events = (chain_end shipped_meanings events.list chain.dispatcher_is chain.bound_is (chain_board chain.dispatcher_is image events)).end
+
+-- what is told of it
+unfoldable pub chain_told : ChainWords → ImageView → EventList → List ℕ
+chain_told chain image events = chain_text shipped_meanings events.list chain.dispatcher_is chain.traces chain.bound_is (chain_board chain.dispatcher_is image events)
+
+-- the board where it ends
+unfoldable pub chain_left : ChainWords → ImageView → EventList → Bench
+chain_left chain image events = record { first = Some (board_after shipped_meanings events.list chain.dispatcher_is chain.bound_is (chain_board chain.dispatcher_is image events)); second = None }
+
+-- what is due of it
+abbrev pub chain_due : ChainWords → ImageView → EventList → Due
+chain_due chain image events = at_once (chain_told chain image events) (status_of (chain_made chain image events))
+
+-- the image is read, then the scenario; then the slot has to be free; and then the chain is made
+abbrev pub slot_plan : ChainWords → ImageView → EventList → Plan Bench
+slot_plan chain image events = unless_taken (taken_at image) (Makes (chain_due chain image events) (chain_left chain image events))
+
+abbrev pub chain_plan : ChainWords → Plan Bench
+chain_plan chain = files_plan chain.image_name chain.scenario_name (λ image events. slot_plan chain image events)

@@ -1,0 +1,108 @@
+// Chains that are called: the board of a bench, and puts that fail.
+use crate::bench::Bench;
+use crate::command::clic_main;
+use crate::tests::words_of;
+use board_outside::{MemoryShelf, MemorySink};
+use device_model::Device;
+use hart_board::Board;
+use std::alloc::Global;
+use std::process::Abort;
+use std::test::Fail;
+use tool_frame::Status;
+
+// tests/rows/interrupt.img
+const FIVE_INPUTS: [u8; 176] = [
+    0x43, 0x4C, 0x43, 0x31, 0, 2, 0, 0, 2, 0, 0, 0, 0x0C, 1, 0, 0, 0x24, 0, 0, 0, 0x6C, 2, 0, 0, 0,
+    0, 0, 0, 0x6C, 2, 0, 0, 0, 0, 0, 0, 0x6C, 2, 0, 0, 0, 0, 0, 0, 0x6C, 2, 0, 0, 0, 0, 0, 0, 0x6C,
+    2, 0, 0, 0, 2, 0, 0, 0x70, 0, 0, 0, 0x37, 1, 1, 0x20, 0x93, 2, 0, 4, 0x73, 0x90, 0x52, 0x30,
+    0x93, 2, 0, 0x10, 0x73, 0x90, 0x72, 0x30, 0x37, 3, 0, 2, 0x93, 2, 0x40, 0, 0x23, 0, 0x53, 0,
+    0x37, 0x13, 0, 2, 0xB7, 2, 2, 0x40, 0x93, 0x82, 2, 0x10, 0x23, 0x26, 0x53, 0, 0x23, 0x2A, 0x53,
+    0, 0xB7, 2, 2, 0xC0, 0x93, 0x82, 2, 0x10, 0x23, 0x2E, 0x53, 0, 0xB7, 2, 2, 0, 0x93, 0x82, 2,
+    0x10, 0x23, 0x22, 0x53, 2, 0xB7, 2, 2, 0x80, 0x93, 0x82, 2, 0x10, 0x23, 0x26, 0x53, 2, 0x73,
+    0x60, 4, 0x30, 0x13, 0, 0, 0, 0x13, 0, 0, 0, 0xB7, 0x32, 0, 0x10, 0x23, 0xA0, 2, 0, 0x67, 0x80,
+    0, 0,
+];
+
+// Its chain under a dispatcher, with inputs 3 and 5 after 23 bodies, and the put of this number failing.
+fn chained(
+    alloc: Global,
+    dispatcher: &str,
+    put: u64,
+    bench: &mut Bench,
+) -> Result<(Status, MemorySink), Fail> {
+    let words = words_of(alloc, &["chain", "i.img", "s.txt", dispatcher, "1000"])?;
+    let mut shelf = MemoryShelf::new(alloc);
+    shelf.hold("i.img", &FIVE_INPUTS)?;
+    shelf.hold("s.txt", b"23 line 3 1\n23 line 5 1\n")?;
+    let mut out = MemorySink::new(alloc, 4096)?;
+    out.fail_at(put)?;
+    let status = clic_main(alloc, &words, &mut shelf, bench, &mut out);
+    Ok((status, out))
+}
+
+// The board has halted, and its last trap was at 25C and saved this mcause.
+fn stands<D: Device>(rt: &impl Abort, board: &Board<D>, mcause: u32) {
+    assert_eq!(rt; board.halted(), Some(0));
+    assert_eq!(rt; board.csrs().read(0x341), Some(0x25C));
+    assert_eq!(rt; board.csrs().read(0x342), Some(mcause));
+}
+
+fn first_stands(rt: &impl Abort, bench: &Bench, mcause: u32) {
+    match &bench.first {
+        Some(board) => stands(rt, board, mcause),
+        None => panic!(rt; "no board"),
+    }
+}
+
+fn is_empty(bench: &Bench) -> bool {
+    bench.first.is_none() && bench.second.is_none()
+}
+
+// The board of a chain is left, and goes with a command that fails.
+fn leaves(
+    rt: &impl Abort,
+    alloc: Global,
+    dispatcher: &str,
+    mcause: u32,
+    bench: &mut Bench,
+) -> Result<(), Fail> {
+    let (status, _) = chained(alloc, dispatcher, 1000, bench)?;
+    assert_eq!(rt; status, Status::Done);
+    first_stands(rt, bench, mcause);
+    let (failed, _) = chained(alloc, dispatcher, 1, bench)?;
+    assert_eq!(rt; failed, Status::SinkFailed);
+    assert!(rt; is_empty(bench));
+    Ok(())
+}
+
+#[test]
+fn the_board_of_a_chain(rt: HostRuntime) -> Result<(), Fail> {
+    let mut bench = Bench::new();
+    leaves(&rt, rt.alloc(), "looping", 0xB800_0005, &mut bench)?;
+    leaves(&rt, rt.alloc(), "returning", 0xB800_0003, &mut bench)
+}
+
+// A put for each of the two services and of the report's first 36 lines, one for the bytes that were sent, and one for
+// each row of dead bytes.
+#[test]
+fn each_put_of_a_chain_fails_in_turn(rt: HostRuntime) -> Result<(), Fail> {
+    let mut bench = Bench::new();
+    let (status, whole) = chained(rt.alloc(), "looping", 1000, &mut bench)?;
+    assert_eq!(rt; status, Status::Done);
+    assert!(rt;
+        whole
+            .bytes()
+            .starts_with(b"s 5 127 1\ns 3 127 1\nend halt 00000000\nsteps 66\n")
+    );
+    let mut failures: u32 = 0;
+    for put in 1..100 {
+        let (status, out) = chained(rt.alloc(), "looping", put, &mut bench)?;
+        assert!(rt; whole.bytes().starts_with(out.bytes()));
+        if out.bytes().len() < whole.bytes().len() {
+            assert_eq!(rt; status, Status::SinkFailed);
+            failures = failures.saturating_add(1);
+        }
+    }
+    assert_eq!(rt; failures, 41);
+    Ok(())
+}
