@@ -1,6 +1,6 @@
 #!/bin/sh
 # Builds the programs of examples/c with the compiler of the distribution, runs them, and compares what they send and,
-# of the one with handlers, its services. It runs after the gate, and is skipped where a tool or a command is missing.
+# of the one with handlers, its services. It runs after the gate, and is skipped where a tool is missing.
 top=$(cd "$(dirname "$0")/.." && pwd)
 skip() {
     echo "C examples: skipped, since $1"
@@ -14,11 +14,7 @@ command -v rt >/dev/null || skip "there is no rt"
 command -v riscv64-unknown-elf-gcc >/dev/null || skip "there is no riscv64-unknown-elf-gcc"
 command -v riscv64-unknown-elf-objcopy >/dev/null || skip "there is no riscv64-unknown-elf-objcopy"
 cd "$top" || exit 1
-usage=$(./clic_tool)
-case $usage in
-*unmem*) ;;
-*) skip "clic_tool has no unmem" ;;
-esac
+./clic_tool >/dev/null # so that it is built
 folder=$(mktemp -d)
 trap 'rm -rf "$folder"' EXIT
 
@@ -40,12 +36,15 @@ sends() {
 
 builds hello examples/c/hello.c
 sends hello run "$folder/hello.img" examples/empty.txt 10000
-case $usage in
-*chain*)
-    builds serial examples/c/serial.c examples/c/serial_handlers.S
-    for dispatcher in looping returning; do
-        sends serial chain "$folder/serial.img" examples/c/serial.txt "$dispatcher" 100000
-    done
-    ;;
-esac
+builds serial examples/c/serial.c examples/c/serial_handlers.S
+
+# A command that isn't built is no command: status 2.
+./clic_tool chain no.img no.txt looping 0 >/dev/null
+if [ $? -eq 2 ]; then
+    echo "C examples: hello is as it should be, and serial isn't run, since clic_tool has no chain"
+    exit 0
+fi
+for dispatcher in looping returning; do
+    sends serial chain "$folder/serial.img" examples/c/serial.txt "$dispatcher" 100000
+done
 echo "C examples: as they should be"

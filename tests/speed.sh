@@ -1,7 +1,7 @@
 #!/bin/sh
 # Counts the host instructions that a step of `run` costs, where valgrind is installed, as the difference of two bounds
 # on a loop. More than the limit says that something which was inlined into the step is no more.
-limit=118
+limit=128
 top=$(cd "$(dirname "$0")/.." && pwd)
 command -v rt >/dev/null || { echo "speed: skipped, since there is no rt"; exit 0; }
 command -v valgrind >/dev/null || { echo "speed: skipped, since there is no valgrind"; exit 0; }

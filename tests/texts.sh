@@ -2,91 +2,8 @@
 # Assembles and runs the examples, and small programs whose whole text was worked out by hand, and compares all that is
 # written, and the status; then the words of commands, files that are refused, and sources. Where there is a GNU `as`
 # for RISC-V, `asm` is compared with it.
-top=$(cd "$(dirname "$0")/.." && pwd)
-command -v rt >/dev/null || { echo "texts: skipped, since there is no rt"; exit 0; }
-folder=$(mktemp -d)
-trap 'rm -rf "$folder"' EXIT
-written=$folder/written
-wanted=$folder/wanted
-cd "$top" || exit 1
-./clic_tool >/dev/null # so that it is built
-program=$top/crates/clic_tool/out/clic_tool
-[ -x "$program" ] || exit 1
-
-fail() {
-    echo "texts: $*" >&2
-    exit 1
-}
-
-# The status, and the words of the command.
-answers() {
-    status=$1
-    shift
-    "$program" "$@" >"$written"
-    given=$?
-    [ "$given" -eq "$status" ] || fail "$*: status $given in place of $status"
-}
-
-# The status, a file with the text, and the words.
-writes() {
-    status=$1
-    text=$2
-    shift 2
-    answers "$status" "$@"
-    cmp "$written" "$text" || fail "$*: another text"
-}
-
-# The status, the text as printf writes it, and the words.
-says() {
-    status=$1
-    printf "$2" >"$wanted"
-    shift 2
-    writes "$status" "$wanted" "$@"
-}
-
-# The status, how the text begins, and the words.
-begins() {
-    status=$1
-    front=$2
-    shift 2
-    answers "$status" "$@"
-    printf "$front" >"$wanted"
-    head -c "$(wc -c <"$wanted")" "$written" | cmp - "$wanted" || fail "$*: another text"
-}
-
-# The text that was written last has these lines.
-has() {
-    for line; do
-        grep -qx -- "$line" "$written" || fail "no line $line"
-    done
-}
-
-# The status, the program, and the words after the names of its image and its scenario.
-runs() {
-    status=$1
-    name=tests/rows/$2
-    shift 2
-    writes "$status" "$name.report" run "$name.img" "$name.txt" "$@"
-}
-
-# A number as four bytes, the lowest first.
-word() {
-    for place in 0 8 16 24; do
-        printf "\\$(printf '%03o' $(($1 >> place & 255)))"
-    done
-}
-
-# An image file: its name, its entry, and one segment's address and words.
-image() {
-    name=$1
-    entry=$2
-    at=$3
-    shift 3
-    {
-        printf CLC1
-        for number in "$entry" 1 "$at" $((4 * $#)) "$@"; do word $((number)); done
-    } >"$name"
-}
+script=texts
+. "$(dirname "$0")/helpers.sh"
 
 # ---- examples
 
@@ -97,6 +14,11 @@ writes 0 examples/echo.report run examples/echo.img examples/echo.txt 1000
 writes 0 examples/blink.img asm examples/blink.s
 writes 0 examples/blink.report run examples/blink.img examples/blink.txt 1000 --trace
 
+writes 0 examples/lost.img asm examples/lost.s
+writes 0 examples/lost.said monitor examples/lost.img examples/lost.script
+writes 0 examples/two.img asm examples/two.s
+writes 0 examples/two.report chain examples/two.img examples/two.txt looping 1000
+
 # A program by its words.
 writes 0 tests/rows/interrupt.img asm tests/rows/interrupt.s
 
@@ -104,6 +26,13 @@ writes 0 tests/rows/interrupt.img asm tests/rows/interrupt.s
 for image in examples/*.img tests/rows/*.img; do
     "$program" disasm "$image" >"$folder/source.s" || fail "disasm $image"
     writes 0 "$image" asm "$folder/source.s"
+done
+
+# The memory text of an image gives the image again, with its entry.
+for image in examples/*.img tests/rows/*.img; do
+    answers 0 mem "$image"
+    cp "$written" "$folder/image.mem"
+    writes 0 "$image" unmem "$folder/image.mem" "$(od -An -tu4 -j4 -N4 "$image" | tr -d ' ')"
 done
 
 # ---- programs
@@ -116,6 +45,12 @@ runs 1 nothing 1 --trace
 runs 1 interrupt 24 --trace
 runs 9 vector 100
 runs 0 ram 100
+
+# Scripts.
+for name in breaks edge seventeen steps; do
+    writes 0 "tests/rows/$name.said" monitor examples/first.img "tests/rows/$name.script"
+done
+writes 0 tests/rows/vector.said monitor tests/rows/vector.img tests/rows/vector.script
 
 # An entry is traced, and where no event comes in time the program halts.
 begins 1 'i 00000200 20010137\n' run tests/rows/interrupt.img tests/rows/interrupt.txt 25 --trace
@@ -146,16 +81,151 @@ has 'mepc 0000FFFE' 'mcause 30000001' 'mtval 00010000'
 printf 'CLC1\003\0\0\0\0\0\0\0' >none.img
 begins 1 'end budget\nsteps 0\npc 00000002\n' run none.img s.txt 0
 
-# A byte in the place of the dispatchers is accepted, and one behind it. A comment may have any bytes.
+# A byte in the place of the dispatchers is accepted, and one behind it. A comment may have any bytes. In a chain that
+# place is refused, after every refusal of the scenario; of two segments the least address in it counts.
 printf '# \300\n' >comment.txt
 for at in 277 300; do
     printf "CLC1\0\0\0\0\001\0\0\0\\$at\0\0\0\001\0\0\0\007" >byte.img
     begins 1 'end budget\n' run byte.img comment.txt 0
+    [ "$at" = 300 ] || says 5 'refused image SlotTaken 000000BF\n' chain byte.img comment.txt looping 0
+done
+says 8 'end broken Exception 2 0\nsteps 0\n' chain byte.img comment.txt looping 0
+printf 'CLC1\0\0\0\0\002\0\0\0\120\0\0\0\001\0\0\0\007\076\0\0\0\003\0\0\0\001\002\003' >slot.img
+says 5 'refused image SlotTaken 00000040\n' chain slot.img comment.txt returning 10
+says 3 'absent no.txt\n' chain slot.img no.txt returning 10
+printf '5 rx 1\r\n' >bad.txt
+says 5 'refused scenario BadLine 1\n' chain slot.img bad.txt returning 10
+
+# ---- chains
+
+# The end of a chain's text: pc, the registers, each 0 but for those given as `x2=20010000`.
+registers() {
+    printf 'pc %s\n' "$1"
+    shift
+    number=1
+    while [ $number -le 31 ]; do
+        value=00000000
+        for register; do
+            [ "${register%%=*}" = "x$number" ] && value=${register#*=}
+        done
+        printf 'x%s %s\n' $number "$value"
+        number=$((number + 1))
+    done
+}
+
+# Rows of dead bytes.
+dead() {
+    for row; do printf 'ram %s --------------------------------\n' "$row"; done
+}
+
+# The events and the services of the program of five inputs, its dead rows, how many bodies it makes, and for each
+# dispatcher how many steps.
+serves() {
+    printf "$1" >serves.txt
+    rows=$3
+    for pair in "looping $5" "returning $6"; do
+        {
+            printf "$2"
+            printf 'end halt 00000000\nsteps %s\nbodies %s\n' "${pair#* }" "$4"
+            registers 0000026C x2=20010000 x5=10003000 x6=02001000
+            printf 'mstatus 00001888\nout 0\n'
+            dead $rows
+        } >serves.text
+        writes 0 serves.text chain five.img serves.txt "${pair% *}" 1000
+    done
+}
+
+# The same chain at other bounds: the dispatcher, the bound, and the services.
+reaches() {
+    says 1 "$3end budget\nsteps $2\n" chain five.img serves.txt "$1" "$2"
+}
+
+cp "$top/tests/rows/interrupt.img" five.img
+cp "$top/tests/rows/vector.img" vector.img
+two='2000FFE0 2000FFF0'
+four='2000FFC0 2000FFD0 2000FFE0 2000FFF0'
+serves '23 line 3 1\n24 line 7 1\n' 's 3 127 1\ns 7 255 2\n' "$four" 29 89 89
+serves '23 line 11 1\n24 line 7 1\n24 line 9 1\n' 's 11 191 1\ns 7 255 2\ns 9 63 1\n' "$four" 30 97 120
+serves 'clic 64 1\n23 line 11 1\n24 line 7 1\n24 line 9 1\n' 's 11 255 1\ns 7 255 1\ns 9 127 1\n' "$two" 30 74 120
+serves 'clic 64 2\n23 line 3 1\n23 line 5 1\n' 's 5 127 1\ns 3 127 1\n' "$two" 29 66 89
+serves '23 line 3 1\n23 line 5 1\n' 's 5 127 1\ns 3 127 1\n' "$two" 29 66 89
+reaches looping 65 's 5 127 1\ns 3 127 1\n'
+reaches looping 45 's 5 127 1\ns 3 127 1\n'
+reaches looping 44 's 5 127 1\n'
+reaches returning 68 's 5 127 1\ns 3 127 1\n'
+reaches returning 67 's 5 127 1\n'
+
+# A trace has the lines of the dispatcher's steps, and a service's line after those of its Enter.
+answers 0 chain five.img serves.txt looping 66 --trace
+has 'q 0000025C 5' 'i 00000040 34911173' 'i 00000070 000580E7' 's 5 127 1' 'i 0000026C 00008067' 'i 00000084 FE0514E3'
+[ "$(grep -c '^[icqx] ' "$written")" -eq 66 ] || fail 'a trace of another length'
+[ "$(grep -B 1 '^s ' "$written" | grep -c '^i 00000070 ')" -eq 2 ] || fail 'a service at another place'
+
+# The program with other words: what sed does to its source, the events, and the text under both dispatchers, which is
+# whole where the convention is broken.
+breaks() {
+    sed "$1" "$top/tests/rows/interrupt.s" >broken.s
+    printf "$2" >broken.txt
+    "$program" asm broken.s >broken.img || fail "$1"
+    for dispatcher in looping returning; do
+        says 8 "$3" chain broken.img broken.txt "$dispatcher" 1000
+    done
+}
+breaks '/^.org 0x10C/{n;s/.*/.word 0x270/}
+$a lw t0, 12(sp)\nret' '23 line 3 1\n' 's 3 127 1\nend broken ReadsDispatch 23\nsteps 37\n'
+stack='/0x20010137/s/.*/lui sp, 0x20000/
+/0x00000013/{s/.*/addi sp, sp, SIZE/;n;s/.*/csrw mscratch, sp/}'
+breaks "$(echo "$stack" | sed s/SIZE/16/)" '25 line 3 1\n' 'end broken StackBad 25\nsteps 25\n'
+for dispatcher in looping returning; do
+    says 8 'end broken HardVectored 23\nsteps 23\n' chain vector.img "$top/tests/rows/vector.txt" "$dispatcher" 100
+done
+sed "$(echo "$stack" | sed s/SIZE/32/)" "$top/tests/rows/interrupt.s" >deep.s
+answers 0 asm deep.s
+cp "$written" deep.img
+printf '25 line 3 1\n' >deep.txt
+for dispatcher in looping returning; do
+    answers 0 chain deep.img deep.txt "$dispatcher" 1000
+    has 's 3 127 1' 'end halt 00000000' 'steps 58' 'x2 20000020' "$(dead 20000000)" "$(dead 20000010)"
+done
+
+# The example of two handlers under the other dispatcher, and with a handler that uses t0.
+cp "$top/examples/two.img" "$top/examples/two.txt" .
+sed s/86/109/ "$top/examples/two.report" >two.returning
+writes 0 two.returning chain two.img two.txt returning 1000
+awk '/^count:/ { lost = 1 } /^send:/ { lost = 0 } { if (lost) gsub("a0", "t0"); print }' "$top/examples/two.s" >lost.s
+answers 0 asm lost.s
+cp "$written" lost.img
+for dispatcher in looping returning; do
+    says 8 's 3 255 1\nend broken RegisterLost 25\nsteps 39\n' chain lost.img two.txt "$dispatcher" 1000
+done
+
+# 200 bytes received, with 20 ticks between them: 40 of the bytes come while a tick is served.
+answers 0 asm "$top/tests/rows/received.s"
+cp "$written" received.img
+awk 'BEGIN {
+    for (i = 0; i < 100; i++) printf "%d rx %d\n%d rx %d\n", 100 + 80 * i, 2 * i, 100 + 80 * i, 2 * i + 1
+    for (j = 0; j < 20; j++) printf "%d tick 10\n", 258 + 400 * j
+}' | sort -n -s >received.txt
+{
+    registers 0000027C x2=20010000 x5=10003000 x6=02001000 x8=10000000 x9=10002000 x18=20000000 x19=000000C8
+    printf 'mstatus 00001880\nout 200\n'
+    awk 'BEGIN { for (i = 0; i < 200; i++) printf "%s%02X%s", i % 32 ? "" : "o ", i, i % 32 == 31 || i == 199 ? "\n" : "" }'
+    printf 'ram 20000000 C8000000140000000000000000000000\n'
+    dead $four
+} >received.text
+for pair in 'looping 12343' 'returning 14643'; do
+    answers 0 chain received.img received.txt "${pair% *}" 20000
+    [ "$(grep -c '^s 16 255 1$' "$written")" -eq 160 ] || fail 'other services'
+    [ "$(grep -c '^s 16 255 2$' "$written")" -eq 40 ] || fail 'other services'
+    [ "$(grep -c '^s 18 127 1$' "$written")" -eq 20 ] || fail 'other services'
+    [ "$(grep -c '^s ' "$written")" -eq 220 ] || fail 'other services'
+    has 'end halt 00000000' "steps ${pair#* }" 'bodies 8043'
+    sed '1,/^bodies/d' "$written" | cmp - received.text || fail 'another report'
 done
 
 # ---- words
 
-usage='usage: clic_tool asm | disasm | run | chain | monitor | gen\n'
+usage='usage: clic_tool asm | disasm | run | chain | monitor | gen | mem | unmem\n'
 says 2 "$usage"
 says 2 "$usage" fly
 says 2 "$usage" fly i.img s.txt 5
@@ -175,7 +245,12 @@ says 2 "$usage" run --help
 says 2 "$usage" run -h
 says 2 "$usage" run i.img s.txt 5 --help
 says 2 "$usage" run i.img s.txt 5 -h
-says 2 "$usage" chain i.img s.txt looping 100
+says 2 "$usage" chain i.img s.txt looping
+says 2 "$usage" chain i.img s.txt 100
+says 2 "$usage" chain no.img s.txt fast 100
+says 2 "$usage" chain no.img s.txt Looping 100
+says 2 "$usage" chain i.img s.txt looping 1000000001
+says 2 "$usage" chain --trace i.img s.txt looping 5 --trace
 says 2 "$usage" asm
 says 2 "$usage" asm --symbols
 says 2 "$usage" asm p.s q.s
@@ -184,6 +259,22 @@ says 2 "$usage" asm --symbols p.s --symbols
 says 2 "$usage" assemble p.s
 says 2 "$usage" disasm --symbols
 says 2 "$usage" disassemble i.img
+says 2 "$usage" monitor i.img
+says 2 "$usage" monitor i.img s.txt 5
+says 2 "$usage" mem
+says 2 "$usage" mem i.img 0
+says 2 "$usage" mem i.img --trace
+says 2 "$usage" memory i.img
+says 2 "$usage" unmem
+says 2 "$usage" unmem i.mem
+says 2 "$usage" unmem i.mem 0 0
+says 2 "$usage" unmem 0 i.mem
+
+# An entry is a number as clap reads it, and words are refused before a file is.
+for entry in 4294967296 18446744073709551616 -1 -0 '' 5x 0x5 +; do
+    says 2 "$usage" unmem no.mem "$entry"
+done
+says 2 "$usage" unmem -- no.mem -0
 
 # A bound is a number as clap reads it.
 for bound in 1000000001 18446744073709551616 -1 -0 '' 5x ' 5' 0x5 +; do
@@ -220,13 +311,21 @@ says 3 'absent no.txt\n' run i.img no.txt 10
 says 3 'absent no.img\n' run no.img no.txt 10
 says 3 'absent \n' run i.img '' 10
 says 3 'absent p.s\n' asm p.s
+says 3 'absent no.img\n' chain no.img no.txt looping 10
+says 3 'absent no.txt\n' chain i.img no.txt looping 10
 says 3 'absent no.img\n' disasm no.img
+says 3 'absent no.img\n' monitor no.img no.script
+says 3 'absent no.script\n' monitor i.img no.script
+says 3 'absent no.img\n' mem no.img
+says 3 'absent no.mem\n' unmem no.mem 4294967295
+says 3 'absent --x\n' unmem -- --x 0
 
 # The image's text and bytes. It is dealt with before the scenario is fetched.
 refuses_image() {
     printf "$2" >bad.img
     says 5 "refused image $1\n" run bad.img no.txt 10
     says 5 "refused image $1\n" disasm bad.img
+    says 5 "refused image $1\n" mem bad.img
 }
 refuses_image 'Truncated 0' ''
 refuses_image 'BadMagic 0' XXXX
@@ -270,6 +369,16 @@ awk 'BEGIN { for (i = 0; i < 65536; i++) print "0 rx 0" }' >many.txt
 begins 0 'end halt 00000005\n' run i.img many.txt 10
 printf '0 rx 0\n' >>many.txt
 says 5 'refused scenario TooMany 65537\n' run i.img many.txt 10
+
+# A script of empty lines is accepted up to the limit.
+printf jump >bad.script
+says 5 'refused script BadLine 1\n' monitor i.img bad.script
+head -c 65536 /dev/zero | tr '\0' '\n' >long.script
+says 0 '' monitor i.img long.script
+printf '\n' >>long.script
+says 5 'refused script TooLarge\n' monitor i.img long.script
+awk 'BEGIN { for (i = 0; i < 4097; i++) print "back" }' >many.script
+says 5 'refused script TooMany 4097\n' monitor i.img many.script
 
 # ---- sources
 
@@ -421,6 +530,81 @@ begins 1 'i 00000000 020012B7\ni 00000004 05F2C503\ni 00000008 0602C503\n' run l
 # ---- listings
 
 says 0 '.entry 0x00000000\n.org 0x00000000\naddi a0, zero, 5\nlui t0, 0x10003\nsw a0, 0(t0)\n' disasm i.img
+
+# ---- memory texts
+
+says 0 '@00000000\n13 05 50 00 B7 32 00 10 23 A0 A2 00\n' mem i.img
+cp "$written" i.mem
+writes 0 i.img unmem i.mem 0
+says 0 '' mem none.img
+
+# Segments in their order, and sixteen bytes a line.
+cat >p.s <<'SOURCE'
+.entry 8
+.org 0x2000FFFF
+.byte 0xFF
+.org 8
+.zero 17
+.byte 0xAB
+SOURCE
+answers 0 asm p.s
+cp "$written" two.img
+line='00 00 00 00 00 00 00 00 00 00 00 00 00 00 00 00'
+says 0 "@2000FFFF\nFF\n@00000008\n$line\n00 AB\n" mem two.img
+
+# A memory text, its entry, and its image.
+makes_image() {
+    printf "$1" >p.mem
+    says 0 "$3" unmem p.mem "$2"
+}
+makes_image '' 0 'CLC1\0\0\0\0\0\0\0\0'
+makes_image '@20000000 @100\t@5' 4294967295 'CLC1\377\377\377\377\0\0\0\0'
+makes_image '1' +7 'CLC1\7\0\0\0\1\0\0\0\0\0\0\0\1\0\0\0\1'
+makes_image '@10 // 1\r2\n3 /* 4 **/5/**/6_f_ //7' 007 'CLC1\7\0\0\0\1\0\0\0\20\0\0\0\3\0\0\0\3\5\157'
+makes_image '@ffff 1\r\n@2_00_0FfFf_\f2' 1 'CLC1\1\0\0\0\2\0\0\0\377\377\0\0\1\0\0\0\1\377\377\0\40\1\0\0\0\2'
+makes_image '@1 1 @2 @2 2' 0 'CLC1\0\0\0\0\2\0\0\0\1\0\0\0\1\0\0\0\1\2\0\0\0\1\0\0\0\2'
+
+refuses_memory() {
+    printf "$2" >p.mem
+    says 5 "refused memory $1\n" unmem p.mem 0
+}
+refuses_memory 'OutsideMemory 9' '@FFFF 01 02'
+refuses_memory 'OutsideMemory 10' '@20010000 1x'
+refuses_memory 'OutsideMemory 10' '@1FFFFFFF 1'
+refuses_memory 'BadByte 1' '1x'
+refuses_memory 'BadByte 2' '123'
+refuses_memory 'BadByte 1' '1@2'
+refuses_memory 'BadByte 0' '_1'
+refuses_memory 'BadByte 1' '@_1'
+refuses_memory 'BadByte 9' '@123456789'
+refuses_memory 'BadByte 1' '/1'
+refuses_memory 'BadByte 0' '\0'
+refuses_memory 'BadByte 2' '1 \v'
+refuses_memory 'BadByte 0' 'z'
+refuses_memory 'Truncated 4' '/* a'
+refuses_memory 'Truncated 3' '/*/'
+refuses_memory 'Truncated 3' '12/'
+refuses_memory 'Truncated 1' '@'
+refuses_memory 'Overlap 7' '1 2 @1 3'
+refuses_memory 'Overlap 11' '@1 1 @0 2_ 3_'
+
+# A 65th segment is refused before its place is looked at, and 64 are not.
+awk 'BEGIN { for (i = 0; i < 64; i++) printf "@%04X 7\n", 2 * i }' >p.mem
+answers 0 unmem p.mem 0
+printf '@FFFFFFFF 1' >>p.mem
+says 5 'refused memory TooMany 522\n' unmem p.mem 0
+
+# A text of the limit, and one byte more.
+head -c 1048576 /dev/zero | tr '\0' ' ' >p.mem
+says 0 'CLC1\0\0\0\0\0\0\0\0' unmem p.mem 0
+printf ' ' >>p.mem
+says 5 'refused memory TooLarge\n' unmem p.mem 0
+
+# What GNU objcopy 2.40 wrote for a program in C: examples/c/build.sh hello examples/c/hello.c
+answers 0 unmem "$top/tests/rows/hello.mem" 0
+cp "$written" hello.img
+answers 0 run hello.img s.txt 10000
+has 'end halt 00000000' 'out 14' 'o 48656C6C6F2066726F6D20432E0A'
 
 cd "$top" || exit 1
 echo "texts: each program writes what it is to write"

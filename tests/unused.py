@@ -22,24 +22,13 @@ for one in (
     ("hart_words", "specs.Bits", "with_low_bits_clear"),
 ):
     ALLOWED[one] = LATER
-ALLOWED[("tool_frame", "specs.Options", "taken_if")] = "words that a command's own reader may refuse"
-CHAIN = "what a dispatcher's steps need of memory"
 for module, names in {
-    "proofs.FetchLemmas": ("fetched_rom", "fetched_rom_alone", "length_rom", "loaded_rom", "next_rom"),
+    "proofs.FetchLemmas": ("fetched_rom_alone", "length_rom"),
     "proofs.NumberLemmas": ("slice_index-with_number_in",),
-    "proofs.PlaceLemmas": ("place-in_rom", "place_ram", "place_ram_from"),
+    "proofs.PlaceLemmas": ("place-in_rom",),
 }.items():
     for name in names:
-        ALLOWED[("hart_memory", module, name)] = CHAIN
-CHAIN_RUN = "what the board does in a chain, and the tests made on it"
-for module, names in {
-    "specs.ChainRun": ("Read", "chained_at", "is_body", "nothing_read", "read_at", "read_by", "read_services", "read_to"),
-    "specs.Judge": ("judge_body", "judge_due", "judge_fetched", "judge_fused", "judge_instruction", "judge_leave", "judge_turn"),
-    "specs.Slot": ("call",),
-    "specs.Words": ("HasDispatcher",),
-}.items():
-    for name in names:
-        ALLOWED[("chain_core", module, name)] = CHAIN_RUN
+        ALLOWED[("hart_memory", module, name)] = LATER
 
 WORD = r"[^\W\d][\w']*(?:-[\w']+)*"
 WORDS = re.compile(WORD)
@@ -71,21 +60,21 @@ def imports(text):
 
 
 def blocks(text):
-    """The declarations of a file, each with its text. Those of a module without a name stand two places in."""
-    found, premises, within = [], "", False
+    """The declarations of a file, each with its text. Those of a module without a name stand two places further in."""
+    found, premises = [], []
     for line in text.split("\n"):
-        if line.startswith("module _"):
-            premises, within = line, True
+        if line.strip():
+            depth = (len(line) - len(line.lstrip())) // 2
+            del premises[depth:]
+        inner = line[2 * len(premises):]
+        if inner.startswith("module _"):
+            premises.append(inner)
             continue
-        if within and line[:2] == "  " and line[2:3].strip():
-            line = line[2:]
-        elif line.strip() and not line[0].isspace():
-            premises, within = "", False
-        head = HEAD.match(line)
-        if head and not line[0].isspace():
-            found.append([head.group(1) or head.group(2), premises + line])
+        head = HEAD.match(inner)
+        if head and not inner[0].isspace():
+            found.append([head.group(1) or head.group(2), " ".join(premises) + inner])
         elif found:
-            found[-1][1] += "\n" + line
+            found[-1][1] += "\n" + inner
     return found
 
 
