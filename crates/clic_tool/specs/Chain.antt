@@ -1,5 +1,5 @@
 -- The command `chain`: its words, and what it does with its files.
-use Rattle.std.specs.Prelude.{ℕ, zero, suc, ◌+◌, ◌-◌, List, [], ◌++◌, Bool, Option, Some, None, codes, unwrap_or, option_map, if◌then◌else◌}
+use Rattle.std.specs.Prelude.{◌≡◌, ℕ, zero, suc, ◌+◌, ◌-◌, List, [], ◌++◌, Bool, Option, Some, None, codes, unwrap_or, option_map, if◌then◌else◌}
 use Rattle.std.specs.Str.{bytes_eq}
 use Rattle.clap.specs.Words.{App, Row, Text, first_of, one_of, new_app, with_rule}
 use Rattle.hart_words.specs.Hexadecimal.{hex8}
@@ -8,8 +8,11 @@ use Rattle.hart_board.specs.State.{State}
 use Rattle.hart_board.specs.Event.{EventList}
 use Rattle.board_inputs.specs.ImageLoading.{loaded}
 use Rattle.chain_core.specs.Slot.{base, slot_end, is_covered}
-use Rattle.chain_core.specs.Start.{installed}
-use Rattle.chain_core.specs.Chain.{chain_end, board_after, chain_text}
+use Rattle.chain_core.specs.Start.{installed, begun}
+use Rattle.chain_core.specs.Moves.{servicing_machine}
+use Rattle.chain_core.specs.ChainRun.{read_to}
+use Rattle.chain_core.specs.End.{services_within}
+use Rattle.chain_core.specs.Chain.{chain_end, board_after, chain_text, machine_run, AgreesWhereDone}
 use Rattle.chain_core.specs.declared.dispatcher.Dispatcher.{Dispatcher}
 use Rattle.chain_core.specs.declared.dispatcher.Dispatcher.TheVariants.{Looping, Returning}
 use Rattle.chain_core.specs.declared.chain_end.ChainEnd.{ChainEnd}
@@ -97,6 +100,19 @@ chain_told chain image events = chain_text shipped_meanings events.list chain.di
 -- the board where it ends
 unfoldable pub chain_left : ChainWords → ImageView → EventList → Bench
 chain_left chain image events = record { first = Some (board_after shipped_meanings events.list chain.dispatcher_is chain.bound_is (chain_board chain.dispatcher_is image events)); second = None }
+
+-- the services that are read off the board's run are those of the servicing machine within the bound
+abbrev pub HasItsServices : Dispatcher → ℕ → EventList → State → Type 0
+HasItsServices d bound events b = (read_to shipped_meanings events.list b (chain_end shipped_meanings events.list d bound b).steps).services ≡ services_within (servicing_machine shipped_meanings events.list) d bound (begun shipped_meanings events.list b)
+
+-- and where the chain is done, the board agrees with the machine's last state
+abbrev pub HasItsState : Dispatcher → ℕ → EventList → State → Type 0
+HasItsState d bound events b = AgreesWhereDone (chain_end shipped_meanings events.list d bound b).end (board_after shipped_meanings events.list d bound b) (machine_run shipped_meanings events.list bound b)
+
+-- the board of a chain does what the servicing machine does
+pub record IsServed (chain : ChainWords) (image : ImageView) (events : EventList) : Type 0 where
+  pub services : HasItsServices chain.dispatcher_is chain.bound_is events (chain_board chain.dispatcher_is image events)
+  pub state : HasItsState chain.dispatcher_is chain.bound_is events (chain_board chain.dispatcher_is image events)
 
 -- what is due of it
 abbrev pub chain_due : ChainWords → ImageView → EventList → Due

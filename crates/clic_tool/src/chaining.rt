@@ -6,7 +6,9 @@ ghost use Rattle.chain_core.specs.Watched.{nothing_watched};
 ghost use Rattle.chain_core.specs.Chain.{chain_end, board_after, chain_text, is_whole};
 ghost use Rattle.clic_tool.specs.Shipped.{shipped_meanings};
 ghost use Rattle.clic_tool.specs.Bench.{Bench, empty_bench};
-ghost use Rattle.clic_tool.specs.Chain.{slot_line, status_of, chain_board, chain_due, chain_left, chain_plan, view_chain};
+ghost use Rattle.clic_tool.specs.ChainCauses.{IsServedTo};
+ghost use Rattle.clic_tool.specs.Chain.{HasItsServices, HasItsState, IsServed, slot_line, status_of, chain_board, chain_due, chain_left, chain_plan, view_chain};
+ghost use Rattle.tool_frame.specs.Code.{OfCommand, origin_of};
 ghost use Rattle.tool_frame.specs.Due.{worked};
 ghost use Rattle.tool_frame.specs.Answers.{EndsOrWants, Leaves, FollowsWith, status_in};
 
@@ -93,6 +95,8 @@ fn chain_shipped<W: Sink>(
     requires shape { events.now.shape ≡ board.old.outside.clic.shape }
     ensures end { IsTrue (is_whole result) → (result ≡ (chain_end shipped_meanings events.now.list dispatcher bound board.old).end) × (board.new ≡ board_after shipped_meanings events.now.list dispatcher bound board.old) }
     ensures text { Writes (is_whole result) (W.told out.old) (W.told out.new) (chain_text shipped_meanings events.now.list dispatcher trace bound board.old) }
+    ensures services { HasItsServices dispatcher bound events.now board.old }
+    ensures state { HasItsState dispatcher bound events.now board.old }
 {
     chain(board, watch, dispatcher, events, bound, trace, out)
 }
@@ -120,6 +124,7 @@ fn chain_image<W: Sink>(
     requires empty { bench.old ≡ empty_bench }
     ensures ends { EndsOrWants result (W.told out.old) (W.told out.new) (chain_due (view_chain order.now) image.now events.now) }
     ensures leaves { Leaves empty_bench result (worked (chain_due (view_chain order.now) image.now events.now) (chain_left (view_chain order.now) image.now events.now)) bench.new }
+    ensures served { origin_of result ≡ OfCommand → IsServed (view_chain order.now) image.now events.now }
 {
     let mut watch = match Watch::new(alloc) {
         Ok(watch) => watch,
@@ -151,7 +156,8 @@ pub fn chain_files<F: Shelf, W: Sink>(
     out: &mut W,
 ) -> Result<Status, Status>
     requires empty { bench.old ≡ empty_bench }
-    ensures { FollowsWith empty_bench (status_in result) (chain_plan (view_chain order.now)) (F.told shelf.old) (F.told shelf.new) (W.told out.old) (W.told out.new) bench.new }
+    ensures served { IsServedTo (view_chain order.now) (status_in result) (F.told shelf.old) (F.told shelf.new) }
+    ensures follows { FollowsWith empty_bench (status_in result) (chain_plan (view_chain order.now)) (F.told shelf.old) (F.told shelf.new) (W.told out.old) (W.told out.new) bench.new }
 {
     let image = read_file(alloc, &ImageFile, order.image, shelf, out)?;
     let events = read_file(alloc, &ScenarioFile, order.scenario, shelf, out)?;

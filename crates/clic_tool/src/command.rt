@@ -14,7 +14,7 @@ ghost use Rattle.clic_tool.specs.Chain.{ChainWords};
 ghost use Rattle.clic_tool.specs.Monitor.{MonitorWords};
 ghost use Rattle.clic_tool.specs.Order.{Runs, Chains, Monitors, order_of, view, plan_of};
 ghost use Rattle.clic_tool.specs.RunCauses.{RanTo};
-ghost use Rattle.clic_tool.specs.ChainCauses.{ChainedTo};
+ghost use Rattle.clic_tool.specs.ChainCauses.{ChainedTo, IsServedTo};
 ghost use Rattle.clic_tool.specs.MonitorCauses.{WantsInScript};
 
 use crate::assembling::assemble_file;
@@ -40,7 +40,8 @@ fn follow<F: Shelf, W: Sink>(
     out: &mut W,
 ) -> Status
     requires empty { bench.old ≡ empty_bench }
-    ensures { FollowsWith empty_bench result (plan_of (Some (view order.now))) (F.told shelf.old) (F.told shelf.new) (W.told out.old) (W.told out.new) bench.new }
+    ensures served { (chain : ChainWords) → view order.now ≡ Chains chain → IsServedTo chain result (F.told shelf.old) (F.told shelf.new) }
+    ensures follows { FollowsWith empty_bench result (plan_of (Some (view order.now))) (F.told shelf.old) (F.told shelf.new) (W.told out.old) (W.told out.new) bench.new }
 {
     match order {
         Order::Run(run) => status_in(run_files(alloc, run, shelf, out)),
@@ -64,7 +65,8 @@ fn answer<F: Shelf, W: Sink>(
     out: &mut W,
 ) -> Status
     requires empty { bench.old ≡ empty_bench }
-    ensures { FollowsWith empty_bench result (plan_of (order_of words.now)) (F.told shelf.old) (F.told shelf.new) (W.told out.old) (W.told out.new) bench.new }
+    ensures served { (chain : ChainWords) → order_of words.now ≡ Some (Chains chain) → IsServedTo chain result (F.told shelf.old) (F.told shelf.new) }
+    ensures follows { FollowsWith empty_bench result (plan_of (order_of words.now)) (F.told shelf.old) (F.told shelf.new) (W.told out.old) (W.told out.new) bench.new }
 {
     match read_order(alloc, words) {
         Ok(Some(order)) => follow(alloc, &order, shelf, bench, out),
@@ -87,6 +89,9 @@ pub fn clic_main<F: Shelf, W: Sink>(
     // Any words: what the command does with its files, by what the shelf gave, with every cause, and the boards that
     // it leaves.
     ensures command { FollowsWith empty_bench result (plan_of (order_of words.now)) (F.told shelf.old) (F.told shelf.new) (W.told out.old) (W.told out.new) bench.new }
+    // A chain that was made had the services of the servicing machine, which knows no dispatcher, and where it was done
+    // the board agrees with that machine in all but dispatch code, dead bytes and what the last trap saved.
+    ensures served { (chain : ChainWords) → order_of words.now ≡ Some (Chains chain) → IsServedTo chain result (F.told shelf.old) (F.told shelf.new) }
     // Where no fault was counted, it is what the files give that the shelf holds, unless memory was wanting.
     ensures due { IsCalm (F.told shelf.old).faults (F.told shelf.new).faults → IsCalm (W.told out.old).faults (W.told out.new).faults
         → IfSome (F.told shelf.old).files (λ files. HasDone result (W.told out.old).written (W.told out.new).written (due_of (plan_of (order_of words.now)) files)) }

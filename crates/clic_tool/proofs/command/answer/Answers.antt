@@ -5,15 +5,15 @@ use Rattle.tool_frame.proofs.Ends.{lacks, makes}
 use Rattle.clic_tool.specs.Order.{Order, order_of, view, plan_of}
 use Rattle.clic_tool.proofs.command.answer.Goals as goal
 
-pub returns-in-Ok-Some : goal.returns-in-Ok-Some
-returns-in-Ok-Some g c =
+pub returns-in-Ok-Some-clause-follows : goal.returns-in-Ok-Some-clause-follows
+returns-in-Ok-Some-clause-follows g c =
     let told : Some (view c.in-Ok-Some.order) ≡ order_of c.args.words.now = rw c.in-Ok-Some.field-0-is at c.in-Ok-Some.ensures in
-    subst (λ (o : Option Order). FollowsWith empty_bench c.follow.result (plan_of o) (g.F.Shelf.told c.args.shelf.now) (g.F.Shelf.told c.follow.new.shelf) (g.W.Sink.told c.args.out.now) (g.W.Sink.told c.follow.new.out) c.follow.new.bench) told c.follow.ensures
+    subst (λ (o : Option Order). FollowsWith empty_bench c.follow.result (plan_of o) (g.F.Shelf.told c.args.shelf.now) (g.F.Shelf.told c.follow.new.shelf) (g.W.Sink.told c.args.out.now) (g.W.Sink.told c.follow.new.out) c.follow.new.bench) told c.follow.ensures.follows
 
-pub returns-in-Ok-None : goal.returns-in-Ok-None
-returns-in-Ok-None g c =
+pub returns-in-Ok-None-clause-follows : goal.returns-in-Ok-None-clause-follows
+returns-in-Ok-None-clause-follows g c =
     let told : None ≡ order_of c.args.words.now = rw c.in-Ok-None.field-0-is at c.in-Ok-None.ensures in
     subst (λ (o : Option Order). FollowsWith empty_bench c.end_usage.result (plan_of o) (g.F.Shelf.told c.args.shelf.now) (g.F.Shelf.told c.args.shelf.now) (g.W.Sink.told c.args.out.now) (g.W.Sink.told c.end_usage.new.out) c.args.bench.now) told (rw c.requires.empty (makes empty_bench _ (inl c.end_usage.ensures)))
 
-pub returns-in-Err : goal.returns-in-Err
-returns-in-Err g c = rw c.requires.empty (lacks empty_bench _ _ _)
+pub returns-in-Err-clause-follows : goal.returns-in-Err-clause-follows
+returns-in-Err-clause-follows g c = rw c.requires.empty (lacks empty_bench _ _ _)

@@ -21,11 +21,12 @@ returns g c =
     let sink = g.W.Sink.told c.args.out.now in
     let sink' = g.W.Sink.told c.answer.new.out in
     let bench = c.answer.new.bench in
-    let done = c.answer.ensures in
+    let done = c.answer.ensures.follows in
     let own = plan_own order in
     record {
       usage = λ none. of_misuse order status shelf shelf' sink sink' bench none done;
       command = done;
+      served = c.answer.ensures.served;
       due = calm_done IsOfCommand empty_bench status plan shelf shelf' sink sink' bench own done;
       boards = calm_left empty_bench status plan shelf shelf' sink sink' bench own done;
       complete = complete IsOfCommand empty_bench status plan shelf shelf' sink sink' bench own done;
