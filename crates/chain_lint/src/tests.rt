@@ -114,9 +114,9 @@ fn a_register_that_is_saved(rt: HostRuntime) -> Result<(), Fail> {
     Ok(())
 }
 
-// Each rule but the first, at the address where it holds.
+// Each rule but the first, at the address where it holds: of what may be executed, and where to.
 #[test]
-fn rules(rt: HostRuntime) -> Result<(), Fail> {
+fn rules_of_control(rt: HostRuntime) -> Result<(), Fail> {
     let cases = [
         // ecall; ebreak; mret; csrci mstatus, 8
         (0x0000_0073, RET, LintWhy::System, 0x200),
@@ -136,6 +136,21 @@ fn rules(rt: HostRuntime) -> Result<(), Fail> {
         (0x0005_0067, RET, LintWhy::UnknownTarget, 0x200),
         (0x0000_80E7, RET, LintWhy::UnknownTarget, 0x200),
         (0x0040_8067, RET, LintWhy::UnknownTarget, 0x200),
+    ];
+    for (first, second, why, at) in cases {
+        assert_eq!(rt;
+            of_handler(&rt, rt.alloc(), &[first, second])?,
+            no(why, at),
+            "{at}"
+        );
+    }
+    Ok(())
+}
+
+// Of what is read and written.
+#[test]
+fn rules_of_data(rt: HostRuntime) -> Result<(), Fail> {
+    let cases = [
         // lw t0, 0(a0); sb zero, 1(t0); lw sp, 0(a0), which breaks a later rule too
         (0x0005_2283, RET, LintWhy::UnknownAddress, 0x200),
         (0x0002_80A3, RET, LintWhy::UnknownAddress, 0x200),
@@ -195,7 +210,7 @@ fn handlers_that_are_accepted(rt: HostRuntime) -> Result<(), Fail> {
 }
 
 #[test]
-fn stack_words(rt: HostRuntime) -> Result<(), Fail> {
+fn stack_words_that_may_not_be_there(rt: HostRuntime) -> Result<(), Fail> {
     // addi sp, sp, -16; beq a0, zero, 8; sw s0, 0(sp); lw s0, 0(sp): one way to the load has no store
     let joined = [
         0xFF01_0113,
@@ -223,6 +238,11 @@ fn stack_words(rt: HostRuntime) -> Result<(), Fail> {
         of_handler(&rt, rt.alloc(), &raised)?,
         no(LintWhy::StackAccess, 0x210)
     );
+    Ok(())
+}
+
+#[test]
+fn stack_words_that_are_written_over(rt: HostRuntime) -> Result<(), Fail> {
     // addi sp, sp, -16; sw s0, 0(sp); sb zero, 0(sp)
     let bytes = [0xFF01_0113, 0x0081_2023, 0x0001_0023, 0x0101_0113, RET, 0];
     assert_eq!(rt;
@@ -450,7 +470,12 @@ fn handlers_in_a_table(rt: HostRuntime) -> Result<(), Fail> {
             at: 0x2000_0000
         }
     );
-    // the first that is refused is told
+    Ok(())
+}
+
+// The table's words, before the handlers that they name; the first that is refused is told.
+#[test]
+fn words_of_a_table(rt: HostRuntime) -> Result<(), Fail> {
     assert_eq!(rt;
         of_table(&rt, rt.alloc(), 0xFFC0, &[pair(16, 1), pair(4, 127)])?,
         TableBound::BadTable(0x1_0000)
