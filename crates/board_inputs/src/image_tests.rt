@@ -52,54 +52,54 @@ fn answer_after(
     Ok(answer(rt, alloc, &bytes))
 }
 
+// That an image of one segment, whose bytes follow its head, is refused so.
+fn assert_segment_refused(
+    rt: &impl Abort,
+    alloc: Global,
+    segment: &[u8],
+    place: u32,
+    why: ImageWhy,
+) -> Result<(), Fail> {
+    assert_eq!(rt;
+        answer_after(rt, alloc, 1, segment)?,
+        refused(place, why),
+        "place {place}"
+    );
+    Ok(())
+}
+
 #[test]
-fn segments_that_are_refused(rt: HostRuntime) -> Result<(), Fail> {
+fn segments_that_are_cut_or_too_long(rt: HostRuntime) -> Result<(), Fail> {
     let cases = [
-        (1, b"".as_slice(), 12, ImageWhy::Truncated),
-        (1, b"\0\0\0\0\x01\0".as_slice(), 16, ImageWhy::Truncated),
+        (b"".as_slice(), 12, ImageWhy::Truncated),
+        (b"\0\0\0\0\x01\0".as_slice(), 16, ImageWhy::Truncated),
         (
-            1,
-            b"\xFE\xFF\0\0\x04\0\0\0\x01\x02\x03\x04".as_slice(),
-            12,
-            ImageWhy::OutsideMemory,
-        ),
-        (
-            1,
-            b"\xFF\xFF\xFF\xFF\x02\0\0\0\x01\x02".as_slice(),
-            12,
-            ImageWhy::OutsideMemory,
-        ),
-        (
-            1,
-            b"\0\0\0\0\0\0\0\0".as_slice(),
-            12,
-            ImageWhy::OutsideMemory,
-        ),
-        (
-            1,
-            b"\xFF\xFF\xFF\x1F\x02\0\0\0\x01\x02".as_slice(),
-            12,
-            ImageWhy::OutsideMemory,
-        ),
-        (
-            1,
             b"\0\0\0\0\x04\0\0\0\x01\x02".as_slice(),
             20,
             ImageWhy::Truncated,
         ),
         (
-            1,
             b"\0\0\0\0\x01\0\0\0\x01\x02".as_slice(),
             21,
             ImageWhy::Trailing,
         ),
     ];
-    for (count, rest, place, why) in cases {
-        assert_eq!(rt;
-            answer_after(&rt, rt.alloc(), count, rest)?,
-            refused(place, why),
-            "place {place}"
-        );
+    for (segment, place, why) in cases {
+        assert_segment_refused(&rt, rt.alloc(), segment, place, why)?;
+    }
+    Ok(())
+}
+
+#[test]
+fn segments_outside_memory(rt: HostRuntime) -> Result<(), Fail> {
+    let segments = [
+        b"\xFE\xFF\0\0\x04\0\0\0\x01\x02\x03\x04".as_slice(),
+        b"\xFF\xFF\xFF\xFF\x02\0\0\0\x01\x02".as_slice(),
+        b"\0\0\0\0\0\0\0\0".as_slice(),
+        b"\xFF\xFF\xFF\x1F\x02\0\0\0\x01\x02".as_slice(),
+    ];
+    for segment in segments {
+        assert_segment_refused(&rt, rt.alloc(), segment, 12, ImageWhy::OutsideMemory)?;
     }
     Ok(())
 }

@@ -165,40 +165,34 @@ fn lines_that_are_passed_over(rt: HostRuntime) {
     }
 }
 
+// That a scenario of this one line is this event.
+fn assert_told(
+    rt: &impl Abort,
+    alloc: Global,
+    line: &[u8],
+    at: u64,
+    what: What,
+) -> Result<(), Fail> {
+    let events = read(rt, alloc, line)?;
+    assert_eq!(rt; events.len(), 1);
+    assert_eq!(rt; events.get(0), Event { at, what });
+    Ok(())
+}
+
+fn line(input: u32, high: bool) -> What {
+    What::Line { input, high }
+}
+
 #[test]
 fn events_that_are_told(rt: HostRuntime) -> Result<(), Fail> {
     let cases = [
-        (
-            b"0 line 0 1".as_slice(),
-            0,
-            What::Line {
-                input: 0,
-                high: true,
-            },
-        ),
-        (
-            b"7 line 15 0".as_slice(),
-            7,
-            What::Line {
-                input: 15,
-                high: false,
-            },
-        ),
-        (
-            b"7 line 24 1".as_slice(),
-            7,
-            What::Line {
-                input: 24,
-                high: true,
-            },
-        ),
+        (b"0 line 0 1".as_slice(), 0, line(0, true)),
+        (b"7 line 15 0".as_slice(), 7, line(15, false)),
+        (b"7 line 24 1".as_slice(), 7, line(24, true)),
         (
             b"1000000000 line 63 0".as_slice(),
             1_000_000_000,
-            What::Line {
-                input: 63,
-                high: false,
-            },
+            line(63, false),
         ),
         (
             b"10 rx 255".as_slice(),
@@ -216,10 +210,8 @@ fn events_that_are_told(rt: HostRuntime) -> Result<(), Fail> {
             What::Device(Stimulus::Tick(65_535)),
         ),
     ];
-    for (bytes, at, what) in cases {
-        let events = read(&rt, rt.alloc(), bytes)?;
-        assert_eq!(rt; events.len(), 1);
-        assert_eq!(rt; events.get(0), Event { at, what });
+    for (text, at, what) in cases {
+        assert_told(&rt, rt.alloc(), text, at, what)?;
     }
     Ok(())
 }

@@ -18,6 +18,24 @@ fn effect_of(rt: &impl Abort, ins: Ins, first: u32, second: u32) -> Effect {
     execute(&ins, 4, &regs, PC)
 }
 
+// What an operation on two registers gives, for each row of the operation, both words and the answer.
+fn assert_operations(rt: &impl Abort, operations: &[(RegOp, u32, u32, u32)]) {
+    for &(op, first, second, value) in operations {
+        let ins = Ins::Reg {
+            op,
+            rd: 5,
+            rs1: FIRST,
+            rs2: SECOND,
+        };
+        let want = Effect::Go {
+            rd: 5,
+            value,
+            next: 0x204,
+        };
+        assert_eq!(rt; effect_of(rt, ins, first, second), want);
+    }
+}
+
 // The operations on two registers, at the edges of each.
 #[test]
 fn operations_on_registers(rt: HostRuntime) {
@@ -33,6 +51,13 @@ fn operations_on_registers(rt: HostRuntime) {
         (RegOp::Sra, 0x7000_0000, 60, 7),
         (RegOp::Or, 0xF0F0_0000, 0x0F0F_0001, 0xFFFF_0001),
         (RegOp::And, 0xF0F0_1234, 0x0FF0_FFFF, 0x00F0_1234),
+    ];
+    assert_operations(&rt, &operations);
+}
+
+#[test]
+fn products_and_quotients(rt: HostRuntime) {
+    let operations = [
         (RegOp::Mul, 0x8000_0001, 3, 0x8000_0003),
         (RegOp::Mulh, 0xFFFF_FFFF, 0xFFFF_FFFF, 0),
         (RegOp::Mulh, 0x8000_0000, 0x8000_0000, 0x4000_0000),
@@ -51,20 +76,7 @@ fn operations_on_registers(rt: HostRuntime) {
         (RegOp::Remu, 7, 0, 7),
         (RegOp::Remu, 0xFFFF_FFF9, 2, 1),
     ];
-    for (op, first, second, value) in operations {
-        let ins = Ins::Reg {
-            op,
-            rd: 5,
-            rs1: FIRST,
-            rs2: SECOND,
-        };
-        let want = Effect::Go {
-            rd: 5,
-            value,
-            next: 0x204,
-        };
-        assert_eq!(rt; effect_of(&rt, ins, first, second), want);
-    }
+    assert_operations(&rt, &operations);
 }
 
 #[test]
