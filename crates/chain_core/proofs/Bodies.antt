@@ -17,7 +17,7 @@ use Rattle.hart_board.specs.declared.encoding.Encoding.{Encoding}
 use Rattle.hart_board.proofs.Still.{step_carries_out, tried_retires, tried_raises}
 use Rattle.hart_report.specs.declared.stepped.Stepped.TheVariants.{Retired, Raised}
 use Rattle.chain_core.specs.Slot.{back, in_slot}
-use Rattle.chain_core.specs.Servicing.{Live, Servicing, marks}
+use Rattle.chain_core.specs.Servicing.{Live, Servicing, marks, is_foreground}
 use Rattle.chain_core.specs.Bytes.{revived_at}
 use Rattle.chain_core.specs.Tests.{first_broken, half_tests, second_tests, are_kept, is_lost}
 use Rattle.chain_core.specs.Enter.{is_enter_due}
@@ -26,7 +26,7 @@ use Rattle.chain_core.specs.Body.{hart, with_hart, is_long_at, retired, fetched_
 use Rattle.hart_memory.specs.Fetch.{fetched}
 use Rattle.chain_core.specs.Ranges.{IsInRange}
 use Rattle.chain_core.specs.Agreement.{AgreeRom}
-use Rattle.chain_core.specs.Beside.{Rest, board_by, board_of}
+use Rattle.chain_core.specs.Beside.{Rest, csrs_by, board_by, board_of}
 use Rattle.chain_core.specs.Related.{Kept, Ons, Related}
 use Rattle.chain_core.specs.Watched.{watched_of}
 use Rattle.chain_core.specs.Judge.{judge_body}
@@ -41,7 +41,7 @@ use Rattle.chain_core.specs.declared.verdict.Verdict.TheVariants.{Refused, Plain
 use Rattle.chain_core.proofs.OneOfThree.{at_made}
 use Rattle.chain_core.proofs.Depth.{InRange, body_range}
 use Rattle.chain_core.proofs.Performs.{KeepsFields}
-use Rattle.chain_core.proofs.Judged.{Means, IsRaised, IsMade, body_means}
+use Rattle.chain_core.proofs.Judged.{Means, IsRaised, IsMade, settled_body, body_means}
 
 -- ---- registers at the return
 not_lost : (v : Mark) (vs : List Mark) (pc : ℕ) (registers : List ℕ) → is_lost (v ∷ vs) pc registers ≡ false → pc ≡ back → are_kept v.kept registers 32 ≡ true
@@ -57,7 +57,7 @@ unfolding marks
 kept_after [] registers registers' pc pc' e h = tt
 kept_after (v ∷ vs) registers registers' pc pc' e h = (record { kept = h.0.kept; pointer = h.0.pointer; returns = not_lost v.mark (marks vs) pc' registers' e }, h.1)
 
-ons_after : (live : List Live) (old new : State) → KeepsFields (marks live) old new → Ons live old.csrs.mie old.csrs.mpie → Ons live new.csrs.mie new.csrs.mpie
+ons_after : (live : List Live) (old new : State) → KeepsFields (is_foreground (marks live)) old new → Ons live old.csrs.mie old.csrs.mpie → Ons live new.csrs.mie new.csrs.mpie
 unfolding marks
 ons_after [] old new f h = tt
 ons_after (v ∷ vs) old new f h = (ap (λ c. c.mie) f ∙ h.0, ap (λ c. c.mpie) f ∙ h.1)
@@ -155,11 +155,17 @@ module _ (m : Meanings) (es : List Event) (s : Servicing) where
       quiet : due b.csrs (top s.outside.clic) ≡ false
       quiet = due_is s x (top s.outside.clic) ∙ calm
 
-      abbrev Made : List Bool → Type 0
-      Made dead = IsMade m es d s x h.stands (attempt m b) (body m es s) dead
+      abbrev IsTrap : Type 0
+      IsTrap = IsRaised Move Servicing s (attempt m b) (body m es s)
 
-      raises : IsRaised m es d s x h.stands (attempt m b) (body m es s) → Raises
-      raises r = record { trap = r.trap; attempts = r.board; tries = tried_raises m b r.trap runs quiet r.board; breaks = r.servicing }
+      abbrev Made : List Bool → Type 0
+      Made dead = IsMade Move Servicing s x (is_foreground (marks s.live)) (csrs_by (marks s.live) x) (settled_body m es s) (attempt m b) (body m es s) dead
+
+      abbrev Said : Verdict → Type 0
+      Said v = Means Move Servicing s x (is_foreground (marks s.live)) (csrs_by (marks s.live) x) (settled_body m es s) (attempt m b) (body m es s) v
+
+      raises : IsTrap → Raises
+      raises r = record { trap = r.trap; attempts = r.board; tries = tried_raises m b r.trap runs quiet r.board; breaks = r.breaks }
 
       after_related : (dead : List Bool) (k : Made dead) → is_lost (marks s.live) k.c.pc k.c.registers ≡ false → IsInRange m (later k.c dead) → Related m d (later k.c dead) (record x { ram = k.ram })
       after_related dead k kept range = record {
@@ -167,7 +173,7 @@ module _ (m : Meanings) (es : List Event) (s : Servicing) where
           range = range;
           rising = h.serves.rising;
           kept = kept_after s.live s.registers k.c.registers s.pc k.c.pc kept h.serves.kept;
-          ons = ons_after s.live (hart s) k.c k.fields h.serves.ons;
+          ons = ons_after s.live (hart s) k.c k.same h.serves.ons;
         };
         stands = record { code = h.stands.code; bytes = h.stands.bytes; rom = subst (λ r. AgreeRom x.rom r) (sym k.rom) h.stands.rom; ram = k.agree; frames = k.frames };
       }
@@ -186,8 +192,8 @@ module _ (m : Meanings) (es : List Event) (s : Servicing) where
           (cases_Bool (in_slot s.pc))
         where
           apart : (lost : Bool) → is_lost (marks s.live) k.c.pc k.c.registers ≡ lost → body m es s ≡ Breaks Before EnteredDispatch s.bodies → ⊥
-          apart true e q = not_after (body m es s) EnteredDispatch RegisterLost s.bodies (s.bodies + 1) q (k.servicing ∙ lost_breaks k.c dead e)
-          apart false e q = not_made (body m es s) Before EnteredDispatch s.bodies Body (later k.c dead) q (k.servicing ∙ kept_makes k.c dead e)
+          apart true e q = not_after (body m es s) EnteredDispatch RegisterLost s.bodies (s.bodies + 1) q (k.settles ∙ lost_breaks k.c dead e)
+          apart false e q = not_made (body m es s) Before EnteredDispatch s.bodies Body (later k.c dead) q (k.settles ∙ kept_makes k.c dead e)
 
       made_by : (dead : List Bool) (k : Made dead) (lost : Bool) → is_lost (marks s.live) k.c.pc k.c.registers ≡ lost → Loses ⊎ Done dead
       unfolding with_events
@@ -198,10 +204,10 @@ module _ (m : Meanings) (es : List Event) (s : Servicing) where
         tries = tries dead k;
         outside = no_slot dead k true e;
         lost = e;
-        breaks = k.servicing ∙ lost_breaks k.c dead e;
+        breaks = k.settles ∙ lost_breaks k.c dead e;
       })
       made_by dead k false e =
-          let makes = k.servicing ∙ kept_makes k.c dead e in
+          let makes = k.settles ∙ kept_makes k.c dead e in
           let range = at_made (InRange m es sound s.outside.clic.shape.inputs from events) (body m es s) (body_range m es sound s.outside.clic.shape.inputs from events s (h.serves.range, refl)) Body (later k.c dead) makes in
           inr (record {
             after = later k.c dead;
@@ -226,14 +232,14 @@ module _ (m : Meanings) (es : List Event) (s : Servicing) where
             };
           })
 
-      made : (dead : List Bool) → IsRaised m es d s x h.stands (attempt m b) (body m es s) ⊎ Made dead → Tried dead
+      made : (dead : List Bool) → IsTrap ⊎ Made dead → Tried dead
       made dead q =
           ⊎_elim
-          (λ (r : IsRaised m es d s x h.stands (attempt m b) (body m es s)). inl (raises r))
+          (λ (r : IsTrap). inl (raises r))
           (λ (k : Made dead). inr (made_by dead k (is_lost (marks s.live) k.c.pc k.c.registers) refl))
           q
 
-      by_verdict : (v : Verdict) → Means m es d s x h.stands (attempt m b) (body m es s) v → BodyMeans v
+      by_verdict : (v : Verdict) → Said v → BodyMeans v
       by_verdict (Refused kind) q = q
       by_verdict Plain q = made s.dead q
       by_verdict (Reviving at width) q = made (revived_at (place at width) width s.dead) q

@@ -1,7 +1,7 @@
 -- How a run with a bound ends, and its services, by the moves that were made and the one that is due after them.
-use Rattle.std.proofs.Common.{◌≡◌, ℕ, suc, ◌<◌, ◌≤◌, ⊎_elim, Bool, true, false, List, [], ◌∷◌, length, refl, sym, ap, ◌∙◌, subst, arith}
+use Rattle.std.proofs.Common.{◌≡◌, ℕ, suc, ◌+◌, ◌<◌, ◌≤◌, ⊎_elim, Bool, true, false, List, [], ◌∷◌, length, refl, sym, ap, ◌∙◌, subst, arith}
 use Rattle.std.specs.Prelude.{nat_le}
-use Rattle.std.proofs.lemmas.Bool.{le-leb, cases_eq, cases_lt}
+use Rattle.std.proofs.lemmas.Bool.{le-leb, leb-true, cases_eq, cases_lt}
 use Rattle.chain_core.specs.Machine.{When, Before, Within, After, Moved, Makes, Breaks, Ends, Machine}
 use Rattle.chain_core.specs.Run.{Made, Run, On, Broke, Over, run_to, Leads, IsRun}
 use Rattle.chain_core.specs.Cost.{cost}
@@ -184,6 +184,26 @@ module _ {K S E : Type 0} (x : Machine K S E) (d : Dispatcher) (s : S) where
   pub made_before_end : (bound : ℕ) (made : List (Made K)) (t : S) → Leads x made s t → cost x d made ≤ bound → cost x d made ≤ (end_at x d bound s).steps
   unfolding end_at
   made_before_end bound made t h l = end_reaches bound made t (run_to x s (suc bound)) (is_run x s (suc bound)) h l
+
+  -- the steps of an end are within the bound
+  end_within : (bound : ℕ) (r : Run K S) → (end_of x d bound r).steps ≤ bound
+  end_within bound (On made t) = omega arith
+  end_within bound (Broke made when kind n) = broke_within when (cost x d made) (nat_le (steps_needed when (cost x d made)) bound) refl
+    where
+      broke_within : (when : When) (c : ℕ) (reaches : Bool) → nat_le (steps_needed when c) bound ≡ reaches → (end_by reaches (BrokenOff kind n) (steps_before when c) bound).steps ≤ bound
+      broke_within when c false e = omega arith
+      broke_within Before c true e = leb-true c bound e
+      broke_within Within c true e = let l = leb-true (c + 1) bound e in omega arith
+      broke_within After c true e = leb-true (c + 1) bound e
+  end_within bound (Over made t) = over_within (cost x d made) (nat_le (cost x d made) bound) refl (Done (cost x d made) (x.bodies t) (length (x.services t)))
+    where
+      over_within : (c : ℕ) (reaches : Bool) → nat_le c bound ≡ reaches → (end : ChainEnd) → (end_by reaches end c bound).steps ≤ bound
+      over_within c false e end = omega arith
+      over_within c true e end = leb-true c bound e
+
+  pub steps_within : (bound : ℕ) → (end_at x d bound s).steps ≤ bound
+  unfolding end_at
+  steps_within bound = end_within bound (run_to x s (suc bound))
 
   -- ---- services
 

@@ -38,6 +38,26 @@ use Rattle.chain_core.proofs.Told.{text_add}
 use Rattle.chain_core.proofs.Standing.{Stood, Final, AtHalt, RoundMeans}
 use Rattle.chain_core.proofs.RoundMeans.{round_means}
 
+-- a board that stands beside a state in which no service is live agrees with it
+pub agrees : (s : Servicing) (x : Rest) (board : State) → board ≡ board_of s x → s.live ≡ [] → ((j : ℕ) → in_slot j ≡ false → slice_index x.rom j ≡ slice_index s.memory.rom j) → ((j : ℕ) → slice_index_or s.dead j false ≡ false → slice_index x.ram j ≡ slice_index s.memory.ram j) → AgreesWith board s
+unfolding marks
+agrees s x board is none rom ram =
+    let empty : marks s.live ≡ [] = ap marks none in
+    record {
+      registers = ap (λ (b : State). b.registers) is;
+      pc = ap (λ (b : State). b.pc) is;
+      outside = ap (λ (b : State). b.outside) is;
+      rom = λ j o. ap (λ (b : State). slice_index b.memory.rom j) is ∙ rom j o;
+      ram = λ j o. ap (λ (b : State). slice_index b.memory.ram j) is ∙ ram j o;
+      mie = ap (λ (b : State). b.csrs.mie) is ∙ ap (λ l. takes_interrupts l s.on) empty;
+      mpie = ap (λ (b : State). b.csrs.mpie) is;
+      threshold = ap (λ (b : State). b.csrs.th) is;
+      table = ap (λ (b : State). b.csrs.mtvt) is;
+      vector = ap (λ (b : State). b.csrs.mtvec_base) is;
+      scratch = ap (λ (b : State). b.csrs.mscratch) is;
+      level = ap (λ (b : State). b.csrs.mil) is ∙ ap innermost_level empty;
+    }
+
 module _ (m : Meanings) (es : List Event) (sound : IsSoundDevice m) (from : ℕ) (d : Dispatcher) (bound : ℕ) (b : State) where
   -- how it ends, and what holds then
   pub record Ends : Type 0 where
@@ -76,25 +96,6 @@ module _ (m : Meanings) (es : List Event) (sound : IsSoundDevice m) (from : ℕ)
     services_are = ap (λ (k : Ended). (read_to m es b k.steps).services) e.final.ends ∙ e.final.services
 
     -- ---- the state
-    agrees : (s : Servicing) (x : Rest) (board : State) → board ≡ board_of s x → s.live ≡ [] → ((j : ℕ) → in_slot j ≡ false → slice_index x.rom j ≡ slice_index s.memory.rom j) → ((j : ℕ) → slice_index_or s.dead j false ≡ false → slice_index x.ram j ≡ slice_index s.memory.ram j) → AgreesWith board s
-    unfolding marks
-    agrees s x board is none rom ram =
-        let empty : marks s.live ≡ [] = ap marks none in
-        record {
-          registers = ap (λ (b : State). b.registers) is;
-          pc = ap (λ (b : State). b.pc) is;
-          outside = ap (λ (b : State). b.outside) is;
-          rom = λ j o. ap (λ (b : State). slice_index b.memory.rom j) is ∙ rom j o;
-          ram = λ j o. ap (λ (b : State). slice_index b.memory.ram j) is ∙ ram j o;
-          mie = ap (λ (b : State). b.csrs.mie) is ∙ ap (λ l. takes_interrupts l s.on) empty;
-          mpie = ap (λ (b : State). b.csrs.mpie) is;
-          threshold = ap (λ (b : State). b.csrs.th) is;
-          table = ap (λ (b : State). b.csrs.mtvt) is;
-          vector = ap (λ (b : State). b.csrs.mtvec_base) is;
-          scratch = ap (λ (b : State). b.csrs.mscratch) is;
-          level = ap (λ (b : State). b.csrs.mil) is ∙ ap innermost_level empty;
-        }
-
     board_is : e.progress.board ≡ board_after m es d bound b
     board_is = ap (λ (q : Progress). q.board) e.final.progress ∙ ap (λ (k : Ended). board_at m is_body es b k.steps) (sym e.final.ends)
 

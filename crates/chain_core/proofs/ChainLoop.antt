@@ -1,6 +1,5 @@
 -- The loop of a chain: where it begins, what a round adds, and what its end says.
-use Rattle.std.proofs.Common.{◌≡◌, ℕ, suc, ◌+◌, ◌-◌, ◌^◌, ◌<◌, ◌≤◌, Bool, true, false, List, [], length, refl, sym, ap, ap₂, ◌∙◌, subst, arith}
-use Rattle.std.specs.Prelude.{nat_le}
+use Rattle.std.proofs.Common.{◌≡◌, ℕ, ◌+◌, ◌-◌, ◌^◌, ◌<◌, ◌≤◌, Bool, true, false, List, [], length, refl, sym, ap, ap₂, ◌∙◌, subst, arith}
 use Rattle.board_outside.specs.Sink.{SinkView, Writes}
 use Rattle.device_model.specs.Meanings.{Meanings, IsSound as IsSoundDevice}
 use Rattle.hart_report.proofs.Texts.{same_text}
@@ -10,13 +9,7 @@ use Rattle.hart_board.specs.Event.{AreEventsFrom, with_events}
 use Rattle.hart_board.specs.Run.{Stand}
 use Rattle.hart_board.specs.Steps.{board_at}
 use Rattle.hart_board.specs.declared.event.Event.{Event}
-use Rattle.chain_core.specs.Servicing.{Servicing}
-use Rattle.chain_core.specs.Machine.{When, Before, Within, After}
-use Rattle.chain_core.specs.Run.{Run, On, Broke, Over, run_to}
-use Rattle.chain_core.specs.End.{end_by, end_of, end_at, steps_before, steps_needed}
-use Rattle.chain_core.specs.declared.moves.Move.{Move}
-use Rattle.chain_core.specs.declared.broken.Broken.{Broken}
-use Rattle.std.proofs.lemmas.Bool.{leb-true}
+use Rattle.chain_core.specs.End.{end_at}
 use Rattle.chain_core.specs.Moves.{servicing_machine}
 use Rattle.chain_core.specs.Cost.{cost}
 use Rattle.chain_core.specs.Start.{begun}
@@ -31,9 +24,9 @@ use Rattle.chain_core.specs.declared.course.Course.{Course}
 use Rattle.chain_core.specs.declared.dispatcher.Dispatcher.{Dispatcher}
 use Rattle.chain_core.specs.declared.ended.Ended.{Ended}
 use Rattle.chain_core.specs.declared.chain_end.ChainEnd.{ChainEnd}
-use Rattle.chain_core.specs.declared.chain_end.ChainEnd.TheVariants.{Done, Broken as BrokenOff}
 use Rattle.chain_core.specs.declared.round.Round.{Round}
 use Rattle.chain_core.proofs.Begun.{rest_of, start_is, start_related, begun_inputs}
+use Rattle.chain_core.proofs.Bounded.{steps_within}
 use Rattle.chain_core.proofs.BodyRuns.{starts_run}
 use Rattle.chain_core.proofs.Watching.{begun_watched}
 use Rattle.chain_core.proofs.Told.{then_told, within_more}
@@ -62,7 +55,7 @@ module _ (m : Meanings) (es : List Event) (sound : IsSoundDevice m) (d : Dispatc
         state = begun m es b;
         rest = rest_of b;
         leads = refl;
-        costs = no_cost m es d;
+        costs = (let none = no_cost m es d in omega (arith, none));
         whole = refl;
         within = omega arith;
         related = start_related m es d sound b 0 events valid has;
@@ -124,25 +117,8 @@ module _ (m : Meanings) (es : List Event) (sound : IsSoundDevice m) (d : Dispatc
   pub dead_is : (p : Progress) (w : Watched) → AtHalt m es 0 d bound b p w → w.dead ≡ dead_at m es bound b
   dead_is p w h = ap (λ (w : Watched). w.dead) h.watch ∙ sym (ap dead_in h.over)
 
-  -- the steps of an end are within the bound
-  end_within : (r : Run Move Servicing) → (end_of (servicing_machine m es) d bound r).steps ≤ bound
-  end_within (On made t) = omega arith
-  end_within (Broke made when kind n) = broke_within when (cost (servicing_machine m es) d made) (nat_le (steps_needed when (cost (servicing_machine m es) d made)) bound) refl kind n
-    where
-      broke_within : (when : When) (c : ℕ) (reaches : Bool) → nat_le (steps_needed when c) bound ≡ reaches → (kind : Broken) (n : ℕ) → (end_by reaches (BrokenOff kind n) (steps_before when c) bound).steps ≤ bound
-      broke_within when c false e kind n = omega arith
-      broke_within Before c true e kind n = leb-true c bound e
-      broke_within Within c true e kind n = let l = leb-true (c + 1) bound e in omega arith
-      broke_within After c true e kind n = leb-true (c + 1) bound e
-  end_within (Over made t) = over_within (cost (servicing_machine m es) d made) (nat_le (cost (servicing_machine m es) d made) bound) refl (Done (cost (servicing_machine m es) d made) t.bodies (length t.services))
-    where
-      over_within : (c : ℕ) (reaches : Bool) → nat_le c bound ≡ reaches → (end : ChainEnd) → (end_by reaches end c bound).steps ≤ bound
-      over_within c false e end = omega arith
-      over_within c true e end = leb-true c bound e
-
   pub final_within : (end : ChainEnd) (steps : ℕ) (p : Progress) → Final m es 0 d bound b end steps p → steps ≤ bound
-  unfolding end_at
   final_within end steps p f =
       let e : (end_at (servicing_machine m es) d bound (begun m es b)).steps ≡ steps = ap (λ (e : Ended). e.steps) f.ends in
-      let l = end_within (run_to (servicing_machine m es) (begun m es b) (suc bound)) in
+      let l = steps_within (servicing_machine m es) d (begun m es b) bound in
       omega (arith, e, l)

@@ -57,7 +57,7 @@ use Rattle.chain_core.proofs.Permitted.{permitted_leaves_controller}
 pub word-lt : (n : ℕ) → word n < 2 ^ 32
 word-lt n = omega arith
 
-even-is : (n : ℕ) → n < 2 ^ 32 → (even n % 2 ≡ 0) × (even n < 2 ^ 32)
+pub even-is : (n : ℕ) → n < 2 ^ 32 → (even n % 2 ≡ 0) × (even n < 2 ^ 32)
 even-is n l = (omega arith, omega arith)
 
 scratch_small : (live : List Mark) (sp scratch : ℕ) → sp < 2 ^ 32 → scratch < 2 ^ 32 → scratch_after live sp scratch < 2 ^ 32
@@ -87,10 +87,10 @@ events_inputs m es t count = ap (λ x. x.inputs) (events_shape m count es t.outs
 
 -- ---- an instruction that is permitted keeps the number of inputs
 module _ (m : Meanings) (sound : IsSoundDevice m) (n : ℕ) where
-  abbrev Keeps : State → Type 0
+  abbrev pub Keeps : State → Type 0
   Keeps t = IsBoard m t × (t.outside.clic.shape.inputs ≡ n)
 
-  keeps_does : (t : State) (ins : Ins) (bits length : ℕ) (foreground : Bool) → Keeps t → fetched t.memory t.pc ≡ Bits bits length → decoded bits length ≡ Some ins → is_permitted foreground ins ≡ true → Does Keeps m t ins length
+  pub keeps_does : (t : State) (ins : Ins) (bits length : ℕ) (foreground : Bool) → Keeps t → fetched t.memory t.pc ≡ Bits bits length → decoded bits length ≡ Some ins → is_permitted foreground ins ≡ true → Does Keeps m t ins length
   keeps_does t ins bits length foreground h f d may =
       let x = does m sound t h.0 ins length (decoded_fits bits length ins d) (length_even t.memory t.pc bits length f) in
       let left = permitted_leaves_controller foreground ins t.registers t.csrs t.outside.clic may in
@@ -150,7 +150,7 @@ module _ (m : Meanings) (es : List Event) (sound : IsSoundDevice m) (n from : �
       (record { board = left_board s v (raised_pointer s.registers) s.scratch (w ∷ ws) h.board l.0 (word-lt _) h.board.csrs.mscratch; live = l.1 }, same)
 
   -- ---- Body
-  after_range : (s t : Servicing) (new : State) → IsInRange m s → Keeps m sound n new → t ≡ with_hart s new t.dead → InRange Body (record t { outside = (with_events m t.bodies es (hart t)).outside })
+  pub after_range : (s t : Servicing) (new : State) → IsInRange m s → Keeps m sound n new → t ≡ with_hart s new t.dead → InRange Body (record t { outside = (with_events m t.bodies es (hart t)).outside })
   after_range s t new h k e =
       let b = k.0 in
       subst (λ (u : Servicing). InRange Body (record u { outside = (with_events m u.bodies es (hart u)).outside })) (sym e)

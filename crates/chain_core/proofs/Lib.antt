@@ -14,6 +14,7 @@ pub mod Permitted
 pub mod Depth
 pub mod SlotBytes
 pub mod Fetching
+mod Opened
 pub mod Told
 pub mod Memories
 pub mod Lifted

@@ -1,15 +1,20 @@
 -- Loops over bytes, live frames and registers.
 use Rattle.std.proofs.Common.{◌≡◌, ℕ, zero, suc, ◌+◌, ◌-◌, ◌<◌, ◌≤◌, ⊎_elim, Bool, true, false, List, [], ◌∷◌, ◌++◌, reverse, length, get_or, set, drop, refl, sym, ap, ap₂, ◌∙◌, subst, arith}
-use Rattle.std.specs.Prelude.{◌&&◌, ◌||◌, ◌==◌, nat_lt, slice_index_or}
+use Rattle.std.specs.Prelude.{◌&&◌, ◌||◌, ◌==◌, nat_le, nat_lt, slice_index_or}
 use Rattle.std.proofs.Math.ListN.{drop_of_length-le}
 use Rattle.std.proofs.Math.Seq.{drop-cons}
 use Rattle.std.proofs.lemmas.List.{get_or_past, get_or-set_other}
 use Rattle.std.specs.Prelude.{slice_index}
-use Rattle.std.proofs.lemmas.Bool.{cases_eq}
+use Rattle.std.proofs.lemmas.Bool.{cases_eq, le-leb}
 use Rattle.std.proofs.Math.Bool.{or-false, or_assoc, or_comm}
 use Rattle.std.proofs.lemmas.Grind.{reverse_onto, get_or-set_at}
 use Rattle.std.proofs.lemmas.Bool.Decides.{nat_tests}
-use Rattle.chain_core.specs.Bytes.{some_byte, in_frame, in_live_frame, overlaps, marked}
+use Rattle.hart_memory.specs.Place.{place}
+use Rattle.hart_memory.specs.declared.address_map.TheConstants.{RAM_BASE}
+use Rattle.hart_memory.specs.declared.place.Place.TheVariants.{InRam}
+use Rattle.hart_memory.proofs.PlaceLemmas.{in_ram}
+use Rattle.chain_core.specs.Slot.{in_slot}
+use Rattle.chain_core.specs.Bytes.{some_byte, is_dead_at, is_hidden, in_frame, in_live_frame, overlaps, marked}
 use Rattle.chain_core.specs.Tests.{is_free, are_kept}
 use Rattle.hart_words.specs.Registers.{register}
 use Rattle.chain_core.specs.declared.mark.Mark.{Mark}
@@ -27,6 +32,27 @@ some_more test at n i h =
 pub some_none : (test : ℕ → Bool) (at n i : ℕ) → n ≤ i → some_byte test (at + i) (n - i) ≡ false
 unfolding some_byte
 some_none test at n i h = let e : n - i ≡ 0 = omega arith in ap (some_byte test (at + i)) e
+
+-- ---- bytes of RAM
+apart : (k : ℕ) → in_slot (RAM_BASE + k) ≡ false
+apart k = grind (arith, nat_tests)
+
+one_in_ram : (dead : List Bool) (k : ℕ) → is_dead_at dead k ≡ is_hidden dead (RAM_BASE + k)
+one_in_ram dead k =
+    let ram : nat_le RAM_BASE (RAM_BASE + k) ≡ true = le-leb RAM_BASE (RAM_BASE + k) (omega arith) in
+    let place : RAM_BASE + k - RAM_BASE ≡ k = omega arith in
+    sym (ap₂ (λ b c. b || (c && is_dead_at dead (RAM_BASE + k - RAM_BASE))) (apart k) ram ∙ ap (is_dead_at dead) place)
+
+hidden_from : (dead : List Bool) (k n : ℕ) → some_byte (is_dead_at dead) k n ≡ some_byte (is_hidden dead) (RAM_BASE + k) n
+unfolding some_byte
+hidden_from dead k zero = refl
+hidden_from dead k (suc n) =
+    let next : RAM_BASE + (k + 1) ≡ RAM_BASE + k + 1 = omega arith in
+    ap₂ (λ b c. b || c) (one_in_ram dead k) (hidden_from dead (k + 1) n ∙ ap (λ at. some_byte (is_hidden dead) at n) next)
+
+-- bytes of RAM are hidden where they are dead
+pub hidden_in_ram : (dead : List Bool) (at n k : ℕ) → InRam k ≡ place at n → some_byte (is_dead_at dead) k n ≡ some_byte (is_hidden dead) at n
+hidden_in_ram dead at n k e = let h = in_ram at n k (sym e) in hidden_from dead k n ∙ ap (λ j. some_byte (is_hidden dead) j n) (sym h.is)
 
 -- ---- frames
 or_swap : (a b c d : Bool) → ((a || b) || (c || d)) ≡ ((a || c) || (b || d))

@@ -1,8 +1,9 @@
 -- An instruction on the board and in the servicing machine.
-use Rattle.std.proofs.Common.{◌≡◌, ℕ, ◌%◌, Bool, true, false, List, [], ◌∷◌, Option, Some, None, Result, Ok, Err, refl, sym, ap, ◌∙◌, subst, arith}
+use Rattle.std.proofs.Common.{◌≡◌, ℕ, ◌%◌, Bool, true, false, List, Option, Some, None, Result, Ok, Err, refl, sym, ap, ◌∙◌, subst, arith}
 use Rattle.std.specs.Prelude.{◌==◌}
 use Rattle.hart_words.specs.Registers.{with_register}
 use Rattle.device_model.specs.Meanings.{Meanings}
+use Rattle.csr_file.specs.CsrState.{CsrState}
 use Rattle.rv_encoding.specs.declared.instruction.Ins.{Ins}
 use Rattle.hart_exec.specs.Access.{extended}
 use Rattle.hart_exec.specs.declared.effect.Effect.{Effect}
@@ -22,46 +23,46 @@ use Rattle.hart_board.specs.Outside.{loaded_in, stored_in}
 use Rattle.hart_board.specs.Access.{load, load_at, load_answer, store, store_at, store_answer}
 use Rattle.hart_board.specs.Attempt.{performed_by, after_load, after_store, after_system, after_system_outcome, with_outcome}
 use Rattle.hart_board.specs.declared.trap.Trap.{Trap}
-use Rattle.chain_core.specs.Servicing.{Servicing, marks, is_foreground}
+use Rattle.chain_core.specs.Servicing.{Servicing, marks}
 use Rattle.chain_core.specs.Bytes.{some_byte, is_hidden, in_live_frame, revived_at}
 use Rattle.chain_core.specs.Body.{hart, dead_after}
 use Rattle.chain_core.specs.Convention.{is_permitted}
 use Rattle.chain_core.specs.Agreement.{Agree, Frames}
-use Rattle.chain_core.specs.Beside.{Rest, board_by, board_of}
+use Rattle.chain_core.specs.Beside.{Rest, board_with}
 use Rattle.chain_core.specs.Related.{Stands}
 use Rattle.chain_core.specs.declared.dispatcher.Dispatcher.{Dispatcher}
-use Rattle.chain_core.specs.declared.mark.Mark.{Mark}
 use Rattle.chain_core.proofs.Marking.{none_of}
 use Rattle.chain_core.proofs.Memories.{rom_same, ram_same, stored_agree, frames_stay}
-use Rattle.chain_core.proofs.Lifted.{outcome_by, lifted, keeps_fields}
+use Rattle.chain_core.proofs.Lifted.{outcome_with, AreLifted, keeps_fields}
 
--- a body of a handler changes no field
-abbrev pub KeepsFields : List Mark → State → State → Type 0
-KeepsFields [] old new = Unit {0}
-KeepsFields (v ∷ vs) old new = new.csrs ≡ old.csrs
+-- a handler's instruction changes no field
+abbrev pub KeepsFields : Bool → State → State → Type 0
+KeepsFields true old new = Unit {0}
+KeepsFields false old new = new.csrs ≡ old.csrs
 
-same_fields : (live : List Mark) (old new : State) → new.csrs ≡ old.csrs → KeepsFields live old new
-same_fields [] old new e = tt
-same_fields (v ∷ vs) old new e = e
+same_fields : (foreground : Bool) (old new : State) → new.csrs ≡ old.csrs → KeepsFields foreground old new
+same_fields true old new e = tt
+same_fields false old new e = e
 
-after_fields : (live : List Mark) (old new newer : State) → newer.csrs ≡ new.csrs → KeepsFields live old new → KeepsFields live old newer
-after_fields [] old new newer e h = tt
-after_fields (v ∷ vs) old new newer e h = e ∙ h
+after_fields : (foreground : Bool) (old new newer : State) → newer.csrs ≡ new.csrs → KeepsFields foreground old new → KeepsFields foreground old newer
+after_fields true old new newer e h = tt
+after_fields false old new newer e h = e ∙ h
 
-handler_fields : (live : List Mark) (t : State) (ins : Ins) (next : ℕ) → is_permitted (is_foreground live) ins ≡ true → KeepsFields live t (with_outcome t (system ins t.registers t.csrs t.outside.clic) next)
-handler_fields [] t ins next p = tt
-handler_fields (v ∷ vs) t ins next p = keeps_fields v vs ins t.registers t.csrs t.outside.clic p
+system_fields : (foreground : Bool) (t : State) (ins : Ins) (next : ℕ) → is_permitted foreground ins ≡ true → KeepsFields foreground t (with_outcome t (system ins t.registers t.csrs t.outside.clic) next)
+system_fields true t ins next p = tt
+system_fields false t ins next p = keeps_fields ins t.registers t.csrs t.outside.clic p
 
-module _ (m : Meanings) (d : Dispatcher) (s : Servicing) (x : Rest) (h : Stands d s x) where
-  abbrev pub b : State
-  b = board_of s x
+-- the board's fields are some of the hart's, and what is permitted does the same with both
+module _ (m : Meanings) (d : Dispatcher) (s : Servicing) (x : Rest) (h : Stands d s x) (foreground : Bool) (fields : CsrState → CsrState) (lifts : AreLifted foreground fields) where
+  abbrev b : State
+  b = board_with fields x (hart s)
 
   -- the board made what the hart made, over a RAM of its own
   pub record Lifts (E : Type 0) (dead : List Bool) (ob : Result State E) (c : State) : Type 0 where
     pub ram : List ℕ
-    pub is : ob ≡ Ok (board_by (marks s.live) (record x { ram = ram }) c)
+    pub is : ob ≡ Ok (board_with fields (record x { ram = ram }) c)
     pub rom : c.memory.rom ≡ s.memory.rom
-    pub fields : KeepsFields (marks s.live) (hart s) c
+    pub same : KeepsFields foreground (hart s) c
     pub agree : Agree ram c.memory.ram dead
     pub frames : Frames ram dead s.live
 
@@ -71,19 +72,19 @@ module _ (m : Meanings) (d : Dispatcher) (s : Servicing) (x : Rest) (h : Stands 
   Same E dead ob (Err e) = ob ≡ Err e
 
   -- the state changed, memory not
-  stays : (E : Type 0) (ob : Result State E) (c : State) → ob ≡ Ok (board_by (marks s.live) x c) → c.memory ≡ s.memory → KeepsFields (marks s.live) (hart s) c → Lifts E s.dead ob c
+  stays : (E : Type 0) (ob : Result State E) (c : State) → ob ≡ Ok (board_with fields x c) → c.memory ≡ s.memory → KeepsFields foreground (hart s) c → Lifts E s.dead ob c
   stays E ob c e q f = record {
     ram = x.ram;
     is = e;
     rom = ap (λ y. y.rom) q;
-    fields = f;
+    same = f;
     agree = subst (λ y. Agree x.ram y.ram s.dead) (sym q) h.ram;
     frames = h.frames;
   }
 
   -- ---- loads
   abbrev LoadSame : Result (ℕ × State) ℕ → Result (ℕ × State) ℕ → Type 0
-  LoadSame ob (Ok found) = (ob ≡ Ok (found.0, board_by (marks s.live) x found.1)) × (found.1 ≡ record (hart s) { outside = found.1.outside })
+  LoadSame ob (Ok found) = (ob ≡ Ok (found.0, board_with fields x found.1)) × (found.1 ≡ record (hart s) { outside = found.1.outside })
   LoadSame ob (Err code) = ob ≡ Err code
 
   load_outside : (o : Option (ℕ × Outside)) → LoadSame (load_answer b o) (load_answer (hart s) o)
@@ -101,12 +102,12 @@ module _ (m : Meanings) (d : Dispatcher) (s : Servicing) (x : Rest) (h : Stands 
   load_same at width q = load_at_same at width (at % width == 0) (place at width) refl q
 
   after_load_same : (rd at width : ℕ) (signed : Bool) (next : ℕ) (ob oh : Result (ℕ × State) ℕ) → LoadSame ob oh → Same Trap s.dead (after_load rd at width signed next ob) (after_load rd at width signed next oh)
-  after_load_same rd at width signed next ob (Ok found) q = stays Trap (after_load rd at width signed next ob) (record found.1 { registers = with_register found.1.registers rd (extended found.0 width signed); pc = next }) (ap (after_load rd at width signed next) q.0) (ap (λ t. t.memory) q.1) (same_fields (marks s.live) (hart s) (record found.1 { registers = with_register found.1.registers rd (extended found.0 width signed); pc = next }) (ap (λ t. t.csrs) q.1))
+  after_load_same rd at width signed next ob (Ok found) q = stays Trap (after_load rd at width signed next ob) (record found.1 { registers = with_register found.1.registers rd (extended found.0 width signed); pc = next }) (ap (after_load rd at width signed next) q.0) (ap (λ t. t.memory) q.1) (same_fields foreground (hart s) (record found.1 { registers = with_register found.1.registers rd (extended found.0 width signed); pc = next }) (ap (λ t. t.csrs) q.1))
   after_load_same rd at width signed next ob (Err code) q = ap (after_load rd at width signed next) q
 
   -- ---- stores
   store_outside : (o : Option Outside) → Same ℕ s.dead (store_answer b o) (store_answer (hart s) o)
-  store_outside (Some outside) = stays ℕ (store_answer b (Some outside)) (record (hart s) { outside = outside }) refl refl (same_fields (marks s.live) (hart s) (record (hart s) { outside = outside }) refl)
+  store_outside (Some outside) = stays ℕ (store_answer b (Some outside)) (record (hart s) { outside = outside }) refl refl (same_fields foreground (hart s) (record (hart s) { outside = outside }) refl)
   store_outside None = refl
 
   store_at_same : (at width value : ℕ) (aligned : Bool) (p : Place) → place at width ≡ p → some_byte (in_live_frame (marks s.live)) at width ≡ false → Same ℕ (revived_at p width s.dead) (store_at m b at width value aligned p) (store_at m (hart s) at width value aligned p)
@@ -119,7 +120,7 @@ module _ (m : Meanings) (d : Dispatcher) (s : Servicing) (x : Rest) (h : Stands 
         ram = with_number x.ram k width value;
         is = refl;
         rom = refl;
-        fields = same_fields (marks s.live) (hart s) (record (hart s) { memory = record s.memory { ram = with_number s.memory.ram k width value } }) refl;
+        same = same_fields foreground (hart s) (record (hart s) { memory = record s.memory { ram = with_number s.memory.ram k width value } }) refl;
         agree = stored_agree width x.ram s.memory.ram s.dead k value lies.ends h.ram;
         frames = frames_stay s.live x.ram s.dead at width k value lies.is (omega (arith, lies.ends, long)) (none_of (in_live_frame (marks s.live)) at width q) h.frames;
       }
@@ -130,20 +131,20 @@ module _ (m : Meanings) (d : Dispatcher) (s : Servicing) (x : Rest) (h : Stands 
   store_same at width value q = store_at_same at width value (at % width == 0) (place at width) refl q
 
   after_store_same : (dead : List Bool) (at next : ℕ) (ob oh : Result State ℕ) → Same ℕ dead ob oh → Same Trap dead (after_store at next ob) (after_store at next oh)
-  after_store_same dead at next ob (Ok c) q = record { ram = q.ram; is = ap (after_store at next) q.is; rom = q.rom; fields = after_fields (marks s.live) (hart s) c (record c { pc = next }) refl q.fields; agree = q.agree; frames = q.frames }
+  after_store_same dead at next ob (Ok c) q = record { ram = q.ram; is = ap (after_store at next) q.is; rom = q.rom; same = after_fields foreground (hart s) c (record c { pc = next }) refl q.same; agree = q.agree; frames = q.frames }
   after_store_same dead at next ob (Err code) q = ap (after_store at next) q
 
   -- ---- system
-  outcome_same : (bits next : ℕ) (end : SystemEnd) (made : SystemOutcome) → KeepsFields (marks s.live) (hart s) (with_outcome (hart s) made next) → Same Trap s.dead (after_system b bits next end (outcome_by (marks s.live) x made)) (after_system (hart s) bits next end made)
-  outcome_same bits next Next made f = stays Trap (Ok (with_outcome b (outcome_by (marks s.live) x made) next)) (with_outcome (hart s) made next) refl refl f
-  outcome_same bits next (Jump target) made f = stays Trap (Ok (with_outcome b (outcome_by (marks s.live) x made) target)) (with_outcome (hart s) made target) refl refl (after_fields (marks s.live) (hart s) (with_outcome (hart s) made next) (with_outcome (hart s) made target) refl f)
+  outcome_same : (bits next : ℕ) (end : SystemEnd) (made : SystemOutcome) → KeepsFields foreground (hart s) (with_outcome (hart s) made next) → Same Trap s.dead (after_system b bits next end (outcome_with fields made)) (after_system (hart s) bits next end made)
+  outcome_same bits next Next made f = stays Trap (Ok (with_outcome b (outcome_with fields made) next)) (with_outcome (hart s) made next) refl refl f
+  outcome_same bits next (Jump target) made f = stays Trap (Ok (with_outcome b (outcome_with fields made) target)) (with_outcome (hart s) made target) refl refl (after_fields foreground (hart s) (with_outcome (hart s) made next) (with_outcome (hart s) made target) refl f)
   outcome_same bits next (Raise code) made f = refl
 
-  system_same : (ins : Ins) (bits next : ℕ) → is_permitted (is_foreground (marks s.live)) ins ≡ true → Same Trap s.dead (after_system_outcome b bits next (system ins b.registers b.csrs b.outside.clic)) (after_system_outcome (hart s) bits next (system ins s.registers (hart s).csrs s.outside.clic))
+  system_same : (ins : Ins) (bits next : ℕ) → is_permitted foreground ins ≡ true → Same Trap s.dead (after_system_outcome b bits next (system ins b.registers b.csrs b.outside.clic)) (after_system_outcome (hart s) bits next (system ins s.registers (hart s).csrs s.outside.clic))
   system_same ins bits next p =
       let made = system ins s.registers (hart s).csrs s.outside.clic in
-      subst (λ o. Same Trap s.dead (after_system_outcome b bits next o) (after_system_outcome (hart s) bits next made)) (sym (lifted x s.registers (hart s).csrs s.outside.clic (marks s.live) ins p))
-      (outcome_same bits next made.answer made (handler_fields (marks s.live) (hart s) ins next p))
+      subst (λ o. Same Trap s.dead (after_system_outcome b bits next o) (after_system_outcome (hart s) bits next made)) (sym (lifts ins p s.registers (hart s).csrs s.outside.clic))
+      (outcome_same bits next made.answer made (system_fields foreground (hart s) ins next p))
 
   -- ---- by the effect
   -- no byte is read that is hidden, and none written that is a live frame's
@@ -153,8 +154,8 @@ module _ (m : Meanings) (d : Dispatcher) (s : Servicing) (x : Rest) (h : Stands 
   IsClean (Store at width value) = some_byte (in_live_frame (marks s.live)) at width ≡ false
   IsClean System = Unit {0}
 
-  pub performed_by_same : (ins : Ins) (bits next : ℕ) (e : Effect) → is_permitted (is_foreground (marks s.live)) ins ≡ true → IsClean e → Same Trap (dead_after s.dead e) (performed_by m b ins bits next e) (performed_by m (hart s) ins bits next e)
-  performed_by_same ins bits next (Go rd value target) p q = stays Trap (performed_by m b ins bits next (Go rd value target)) (record (hart s) { registers = with_register s.registers rd value; pc = target }) refl refl (same_fields (marks s.live) (hart s) (record (hart s) { registers = with_register s.registers rd value; pc = target }) refl)
+  pub performed_by_same : (ins : Ins) (bits next : ℕ) (e : Effect) → is_permitted foreground ins ≡ true → IsClean e → Same Trap (dead_after s.dead e) (performed_by m b ins bits next e) (performed_by m (hart s) ins bits next e)
+  performed_by_same ins bits next (Go rd value target) p q = stays Trap (performed_by m b ins bits next (Go rd value target)) (record (hart s) { registers = with_register s.registers rd value; pc = target }) refl refl (same_fields foreground (hart s) (record (hart s) { registers = with_register s.registers rd value; pc = target }) refl)
   performed_by_same ins bits next (Load rd at width signed) p q = after_load_same rd at width signed next (load m b at width) (load m (hart s) at width) (load_same at width q)
   performed_by_same ins bits next (Store at width value) p q = after_store_same (revived_at (place at width) width s.dead) at next (store m b at width value) (store m (hart s) at width value) (store_same at width value q)
   performed_by_same ins bits next System p q = system_same ins bits next p

@@ -19,6 +19,7 @@ use Rattle.chain_core.specs.Beside.{Rest, board_of}
 use Rattle.chain_core.specs.Progress.{Progress}
 use Rattle.chain_core.specs.Rounds.{round_due, round_unless_halted, round}
 use Rattle.chain_core.specs.Cost.{leave_cost}
+use Rattle.chain_core.specs.Start.{begun}
 use Rattle.chain_core.specs.declared.dispatcher.Dispatcher.{Dispatcher}
 use Rattle.chain_core.specs.declared.turn.Turn.{Turn}
 use Rattle.chain_core.specs.declared.turn.Turn.TheVariants.{Enter, Leave, Fuse, Body}
@@ -27,7 +28,7 @@ use Rattle.chain_core.proofs.Nested.{depth_below}
 use Rattle.chain_core.proofs.Depth.{innermost_small}
 use Rattle.chain_core.proofs.Enters.{passes}
 use Rattle.chain_core.proofs.Turns.{TurnMeans, turn_means}
-use Rattle.chain_core.proofs.Standing.{Stood, Means}
+use Rattle.chain_core.proofs.Standing.{StoodFrom, MeansFrom, Stood, Means, from_start}
 use Rattle.chain_core.proofs.RoundsBegin.{board_is, entry_round}
 use Rattle.chain_core.proofs.RoundsReturn.{leaving, fuse_round}
 use Rattle.chain_core.proofs.RoundsBody.{body_round, halted_means}
@@ -45,7 +46,7 @@ above s t e =
     let parts = and_parts (nat_lt (innermost_level (marks s.live)) t.level) (nat_lt s.threshold t.level) both.1 in
     ltb-true (innermost_level (marks s.live)) t.level parts.0
 
-module _ (m : Meanings) (es : List Event) (sound : IsSoundDevice m) (from : ℕ) (d : Dispatcher) (bound : ℕ) (b : State) (p : Progress) (w : Watched) (n : ℕ) (st : Stood m es from d bound b p w n) where
+module _ (m : Meanings) (es : List Event) (sound : IsSoundDevice m) (from : ℕ) (d : Dispatcher) (bound : ℕ) (b : State) (start : Servicing) (at : ℕ) (p : Progress) (w : Watched) (n : ℕ) (st : StoodFrom m es from d bound b start at p w n) where
   abbrev s : Servicing
   s = st.state
 
@@ -53,17 +54,17 @@ module _ (m : Meanings) (es : List Event) (sound : IsSoundDevice m) (from : ℕ)
   x = st.rest
 
   pub judge_is : judge_turn d p.board w ≡ judge_turn d (board_of s x) (watched_of s)
-  judge_is = ap (λ b. judge_turn d b w) (board_is m es from d bound b p w n st) ∙ ap (judge_turn d (board_of s x)) st.watch
+  judge_is = ap (λ b. judge_turn d b w) (board_is m es from d bound b start at p w n st) ∙ ap (judge_turn d (board_of s x)) st.watch
 
   module _ (runs : m.halted s.outside.device ≡ None) where
-    due_round : (turn : Turn) → TurnMeans m es d s x (move m es s) turn → Means m es from d bound b n (round_due m es (bound - n) p w turn)
-    due_round (Enter e) (t, is_top, is_due, h) = entry_round m es from d bound b p w n st sound runs t is_top is_due e h
-    due_round Leave u = leaving m es sound from d bound b p w n st runs u (nat_le leave_cost (bound - n)) refl
-    due_round (Fuse e) u = fuse_round m es sound from d bound b p w n st runs e u
-    due_round (Body v) (calm, is_body, is) = body_round m es sound from d bound b p w n st runs calm is_body v is
+    due_round : (turn : Turn) → TurnMeans m es d s x (move m es s) turn → MeansFrom m es from d bound b start at n (round_due m es (bound - n) p w turn)
+    due_round (Enter e) (t, is_top, is_due, h) = entry_round m es from d bound b start at p w n st sound runs t is_top is_due e h
+    due_round Leave u = leaving m es sound from d bound b start at p w n st runs u (nat_le leave_cost (bound - n)) refl
+    due_round (Fuse e) u = fuse_round m es sound from d bound b start at p w n st runs e u
+    due_round (Body v) (calm, is_body, is) = body_round m es sound from d bound b start at p w n st runs calm is_body v is
 
-    running : Means m es from d bound b n (round_due m es (bound - n) p w (judge_turn d p.board w))
-    running = subst (λ turn. Means m es from d bound b n (round_due m es (bound - n) p w turn)) (sym judge_is) (due_round (judge_turn d (board_of s x) (watched_of s)) (turn_means m es d s x st.related runs))
+    running : MeansFrom m es from d bound b start at n (round_due m es (bound - n) p w (judge_turn d p.board w))
+    running = subst (λ turn. MeansFrom m es from d bound b start at n (round_due m es (bound - n) p w turn)) (sym judge_is) (due_round (judge_turn d (board_of s x) (watched_of s)) (turn_means m es d s x st.related runs))
 
     -- what the code has to know of an Enter before it makes it
     at_turn : (turn : Turn) → judge_turn d p.board w ≡ turn → TurnMeans m es d s x (move m es s) turn
@@ -97,17 +98,23 @@ module _ (m : Meanings) (es : List Event) (sound : IsSoundDevice m) (from : ℕ)
         let is = u.enters.0 in
         (omega (arith, many, some), omega (arith, many, deep, small), subst (λ f. RAM_BASE ≤ f) (sym is) fit.low, subst (λ f. f + frame_size ≤ RAM_BASE + BANK_LEN) (sym is) fit.high)
 
-  by_halt : (o : Option ℕ) → m.halted s.outside.device ≡ o → Means m es from d bound b n (round_unless_halted m es d (bound - n) p w o)
+  by_halt : (o : Option ℕ) → m.halted s.outside.device ≡ o → MeansFrom m es from d bound b start at n (round_unless_halted m es d (bound - n) p w o)
   by_halt None e = running e
-  by_halt (Some code) e = halted_means m es sound from d bound b p w n st code e
+  by_halt (Some code) e = halted_means m es sound from d bound b start at p w n st code e
 
   pub same_halt : m.halted p.board.outside.device ≡ m.halted s.outside.device
-  same_halt = ap (λ (b : State). m.halted b.outside.device) (board_is m es from d bound b p w n st)
+  same_halt = ap (λ (b : State). m.halted b.outside.device) (board_is m es from d bound b start at p w n st)
 
-  pub round_means : Means m es from d bound b n (round m es d (bound - n) p w)
+  pub round_from : MeansFrom m es from d bound b start at n (round m es d (bound - n) p w)
   unfolding round
-  round_means = by_halt (m.halted p.board.outside.device) (sym same_halt)
+  round_from = by_halt (m.halted p.board.outside.device) (sym same_halt)
 
   -- where the board hasn't halted
   pub runs_still : m.halted p.board.outside.device ≡ None → m.halted s.outside.device ≡ None
   runs_still e = sym same_halt ∙ e
+
+-- and so in a chain from its start
+pub round_means : (m : Meanings) (es : List Event) (sound : IsSoundDevice m) (from : ℕ) (d : Dispatcher) (bound : ℕ) (b : State) (p : Progress) (w : Watched) (n : ℕ) → Stood m es from d bound b p w n → Means m es from d bound b n (round m es d (bound - n) p w)
+round_means m es sound from d bound b p w n st =
+    let r = round m es d (bound - n) p w in
+    from_start m es from d bound b n r.told r.progress r.watch (round_from m es sound from d bound b (begun m es b) 0 p w n st)

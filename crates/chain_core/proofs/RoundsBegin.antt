@@ -1,5 +1,5 @@
 -- Rounds that break, that have no steps left, or that enter a service.
-use Rattle.std.proofs.Common.{◌≡◌, ℕ, ◌+◌, ◌-◌, ◌<◌, ◌≤◌, ⊎_elim, Bool, true, false, List, ◌∷◌, length, Some, None, refl, sym, ap, ap₂, ◌∙◌, subst, arith}
+use Rattle.std.proofs.Common.{◌≡◌, ℕ, ◌+◌, ◌-◌, ◌<◌, ◌≤◌, inl, ⊎_elim, Bool, true, false, List, ◌∷◌, length, Some, None, refl, sym, ap, ap₂, ◌∙◌, subst, arith}
 use Rattle.std.specs.Prelude.{nat_le}
 use Rattle.std.proofs.lemmas.Bool.{leb-true, leb-false, cases_eq}
 use Rattle.device_model.specs.Meanings.{Meanings, IsSound as IsSoundDevice}
@@ -16,7 +16,6 @@ use Rattle.chain_core.specs.Run.{Made}
 use Rattle.chain_core.specs.Moves.{move, claims, servicing_machine}
 use Rattle.chain_core.specs.Cost.{is_fused, is_halfway, price, cost, enter_cost}
 use Rattle.chain_core.specs.Enter.{is_enter_due, new_frame, entered}
-use Rattle.chain_core.specs.Start.{begun}
 use Rattle.chain_core.specs.ChainRun.{Read, read_to}
 use Rattle.chain_core.specs.Watched.{Watched, with_service}
 use Rattle.chain_core.specs.Beside.{Rest, board_of}
@@ -27,16 +26,15 @@ use Rattle.chain_core.specs.declared.dispatcher.Dispatcher.{Dispatcher}
 use Rattle.chain_core.specs.declared.dispatcher.Dispatcher.TheVariants.{Looping, Returning}
 use Rattle.chain_core.specs.declared.moves.Move.{Move}
 use Rattle.chain_core.specs.declared.moves.Move.TheVariants.{Enter, Body}
-use Rattle.chain_core.specs.declared.chain_end.ChainEnd.TheVariants.{BudgetSpent, Broken as BrokenOff}
 use Rattle.chain_core.specs.declared.entry.Entry.{Entry}
 use Rattle.chain_core.specs.declared.entry.Entry.TheVariants.{Refused, Admitted}
-use Rattle.chain_core.proofs.Bounded.{Late, spent_end, broken_end, services_are, late_last, broke_last}
+use Rattle.chain_core.proofs.Bounded.{Late}
 use Rattle.chain_core.proofs.Enters.{entered_framed, entered_inputs, entered_bodies}
 use Rattle.chain_core.proofs.EnterRuns.{rest_entered, saved_cause, enter_runs}
 use Rattle.chain_core.proofs.MoveRuns.{with_service as read_service, enter_in_run}
 use Rattle.chain_core.proofs.Turns.{EntryMeans}
 use Rattle.chain_core.proofs.Watching.{new_mark, entered_watched}
-use Rattle.chain_core.proofs.Standing.{goes_at, goes_to, Stood, Final, Means}
+use Rattle.chain_core.proofs.Standing.{goes_at, goes_to, StoodFrom, BrokeFrom, SpentFrom, MeansFrom}
 
 -- ---- what a move costs
 pub enter_whole : (d : Dispatcher) (claims : Bool) → is_fused d Enter claims ≡ false
@@ -48,14 +46,18 @@ body_whole Looping claims = refl
 body_whole Returning claims = refl
 
 -- a move from where no fused pair is halfway
-pub next_cost : (m : Meanings) (es : List Event) (d : Dispatcher) (made : List (Made Move)) (k : Made Move) (n : ℕ) → cost (servicing_machine m es) d made ≡ n → is_halfway (servicing_machine m es) d made ≡ false → cost (servicing_machine m es) d (k ∷ made) ≡ n + price k.kind false (is_fused d k.kind k.claims)
+pub next_cost : (m : Meanings) (es : List Event) (d : Dispatcher) (made : List (Made Move)) (k : Made Move) (at n : ℕ) → at + cost (servicing_machine m es) d made ≡ n → is_halfway (servicing_machine m es) d made ≡ false → at + cost (servicing_machine m es) d (k ∷ made) ≡ n + price k.kind false (is_fused d k.kind k.claims)
 unfolding cost
-next_cost m es d made k n c w = ap₂ (λ c h. c + price k.kind h (is_fused d k.kind k.claims)) c w
+next_cost m es d made k at n c w =
+    let e : price k.kind (is_halfway (servicing_machine m es) d made) (is_fused d k.kind k.claims) ≡ price k.kind false (is_fused d k.kind k.claims) = ap (λ h. price k.kind h (is_fused d k.kind k.claims)) w in
+    omega (arith, c, e)
 
 -- and from halfway
-pub half_cost : (m : Meanings) (es : List Event) (d : Dispatcher) (made : List (Made Move)) (k : Made Move) (n : ℕ) → cost (servicing_machine m es) d made ≡ n → is_halfway (servicing_machine m es) d made ≡ true → cost (servicing_machine m es) d (k ∷ made) ≡ n + price k.kind true (is_fused d k.kind k.claims)
+pub half_cost : (m : Meanings) (es : List Event) (d : Dispatcher) (made : List (Made Move)) (k : Made Move) (at n : ℕ) → at + cost (servicing_machine m es) d made ≡ n → is_halfway (servicing_machine m es) d made ≡ true → at + cost (servicing_machine m es) d (k ∷ made) ≡ n + price k.kind true (is_fused d k.kind k.claims)
 unfolding cost
-half_cost m es d made k n c w = ap₂ (λ c h. c + price k.kind h (is_fused d k.kind k.claims)) c w
+half_cost m es d made k at n c w =
+    let e : price k.kind (is_halfway (servicing_machine m es) d made) (is_fused d k.kind k.claims) ≡ price k.kind true (is_fused d k.kind k.claims) = ap (λ h. price k.kind h (is_fused d k.kind k.claims)) w in
+    omega (arith, c, e)
 
 -- the mark of a service whose handler begins on a board that stands beside the machine
 pub mark_is : (s : Servicing) (t : Choice) (y : Rest) → mark_at (board_of (entered s t) y) (new_frame s) ≡ new_mark s t
@@ -67,7 +69,7 @@ pub read_entered : (s : Servicing) (t : Choice) (r : Read) → r ≡ record { de
 unfolding entered
 read_entered s t r e = ap (λ r. read_service r t) e
 
-module _ (m : Meanings) (es : List Event) (from : ℕ) (d : Dispatcher) (bound : ℕ) (b : State) (p : Progress) (w : Watched) (n : ℕ) (st : Stood m es from d bound b p w n) where
+module _ (m : Meanings) (es : List Event) (from : ℕ) (d : Dispatcher) (bound : ℕ) (b : State) (start : Servicing) (at : ℕ) (p : Progress) (w : Watched) (n : ℕ) (st : StoodFrom m es from d bound b start at p w n) where
   abbrev s : Servicing
   s = st.state
 
@@ -84,26 +86,35 @@ module _ (m : Meanings) (es : List Event) (from : ℕ) (d : Dispatcher) (bound :
   listed_are = ap (λ (r : Read). r.services) st.read
 
   -- ---- a test that holds before anything is done
-  pub refused : (kind : Broken) → move m es s ≡ Breaks Before kind s.bodies → Final m es from d bound b (BrokenOff kind p.bodies) (n + 0) p
+  pub refused : (kind : Broken) → move m es s ≡ Breaks Before kind s.bodies → BrokeFrom m es from d bound b start at n kind (n + 0) p
   refused kind e =
       let none : n + 0 ≡ n = omega arith in
       let c = st.costs in
       record {
-        ends = broken_end (servicing_machine m es) d (begun m es b) bound st.made s Before kind s.bodies st.leads e (omega (arith, c, st.within))
-            ∙ ap₂ (λ k steps. record { end = BrokenOff kind k; steps = steps }) (sym bodies_are) (c ∙ sym none);
+        made = st.made;
+        state = s;
+        when = Before;
+        leads = st.leads;
+        breaks = e ∙ ap (Breaks Before kind) (sym bodies_are);
+        soft = inl c;
+        steps_are = c ∙ sym none;
+        within = omega (arith, c, st.within);
         progress = st.progress ∙ ap (progress_at m es b) (sym none);
-        services = ap (λ k. (read_to m es b k).services) none ∙ (listed_are ∙ sym (services_are (servicing_machine m es) d (begun m es b) bound st.made s st.leads (omega (arith, c, st.within)) (broke_last (servicing_machine m es) d (begun m es b) bound st.made (move m es s) Before kind s.bodies e)));
+        services = ap (λ k. (read_to m es b k).services) none ∙ listed_are;
       }
 
   -- ---- too few steps are left for what is due
-  pub spent_now : (moved : Moved Move Servicing) → move m es s ≡ moved → Late (servicing_machine m es) d (begun m es b) bound st.made moved → (read_to m es b bound).services ≡ s.services → Final m es from d bound b BudgetSpent bound (goes m es (bound - n) p)
+  pub spent_now : (moved : Moved Move Servicing) → move m es s ≡ moved → Late (servicing_machine m es) d start (bound - at) st.made moved → (read_to m es b bound).services ≡ s.services → SpentFrom m es from d bound b start at (goes m es (bound - n) p)
   spent_now moved e late same =
       let c = st.costs in
-      let now : Late (servicing_machine m es) d (begun m es b) bound st.made (move m es s) = subst (Late (servicing_machine m es) d (begun m es b) bound st.made) (sym e) late in
       record {
-        ends = spent_end (servicing_machine m es) d (begun m es b) bound st.made s st.leads now;
+        made = st.made;
+        state = s;
+        leads = st.leads;
+        within = omega (arith, c, st.within);
+        late = subst (Late (servicing_machine m es) d start (bound - at) st.made) (sym e) late;
         progress = ap (goes m es (bound - n)) st.progress ∙ goes_to m es b bound n st.within;
-        services = same ∙ sym (services_are (servicing_machine m es) d (begun m es b) bound st.made s st.leads (omega (arith, c, st.within)) (late_last (servicing_machine m es) d (begun m es b) bound st.made (move m es s) now));
+        services = same;
       }
 
   -- inside a move that lists nothing before its last step
@@ -119,7 +130,7 @@ module _ (m : Meanings) (es : List Event) (from : ℕ) (d : Dispatcher) (bound :
 
   -- ---- Enter
   module _ (sound : IsSoundDevice m) (runs : m.halted s.outside.device ≡ None) (t : Choice) (is_top : top s.outside.clic ≡ Some t) (is_due : is_enter_due s (Some t) ≡ true) where
-    entering : (frame : ℕ) (reaches : Bool) → nat_le enter_cost (bound - n) ≡ reaches → EntryMeans s t (move m es s) (Admitted frame) → Means m es from d bound b n (round_enter m es (bound - n) p w reaches frame)
+    entering : (frame : ℕ) (reaches : Bool) → nat_le enter_cost (bound - n) ≡ reaches → EntryMeans s t (move m es s) (Admitted frame) → MeansFrom m es from d bound b start at n (round_enter m es (bound - n) p w reaches frame)
     entering frame true enough (frame_is, untested, made) =
         let room : 14 ≤ bound - n = leb-true 14 (bound - n) enough in
         let run = enter_in_run m es b n s.bodies d s x st.related runs st.stands t is_top is_due untested in
@@ -133,7 +144,7 @@ module _ (m : Meanings) (es : List Event) (from : ℕ) (d : Dispatcher) (bound :
             state = entered s t;
             rest = rest_entered s x t;
             leads = (s, st.leads, made, refl);
-            costs = next_cost m es d st.made k n st.costs st.whole;
+            costs = next_cost m es d st.made k at n st.costs st.whole;
             whole = enter_whole d (claims (entered s t));
             within = omega (arith, room);
             related = entered_framed m d s x t st.related untested (saved_cause s t) facts.small facts.enabled facts.level (rest_entered s x t) refl refl sound is_top is_due;
@@ -151,9 +162,9 @@ module _ (m : Meanings) (es : List Event) (from : ℕ) (d : Dispatcher) (bound :
     entering frame false few (frame_is, untested, made) =
         let short : bound - n < 14 = leb-false 14 (bound - n) few in
         let run = enter_in_run m es b n s.bodies d s x st.related runs st.stands t is_top is_due untested in
-        let c = next_cost m es d st.made (record { kind = Enter; claims = claims (entered s t) }) n st.costs st.whole in
+        let c = next_cost m es d st.made (record { kind = Enter; claims = claims (entered s t) }) at n st.costs st.whole in
         spent_now (Makes Enter (entered s t)) made (omega (arith, c, short, st.within)) (still_listed 14 (read_to m es b n) run.read_inside refl short)
 
-    pub entry_round : (e : Entry) → EntryMeans s t (move m es s) e → Means m es from d bound b n (round_entry m es (bound - n) p w e)
+    pub entry_round : (e : Entry) → EntryMeans s t (move m es s) e → MeansFrom m es from d bound b start at n (round_entry m es (bound - n) p w e)
     entry_round (Refused kind) h = refused kind h
     entry_round (Admitted frame) h = entering frame (nat_le enter_cost (bound - n)) refl h

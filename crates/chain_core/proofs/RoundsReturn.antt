@@ -1,5 +1,5 @@
 -- Rounds that leave a service: back to what it suspended, or on with the next service.
-use Rattle.std.proofs.Common.{◌≡◌, ◌≢◌, ℕ, suc, ◌+◌, ◌-◌, ◌<◌, ◌≤◌, ⊎_elim, Bool, true, false, List, ◌∷◌, length, None, refl, sym, ap, ap₂, ◌∙◌, subst, arith}
+use Rattle.std.proofs.Common.{◌≡◌, ◌≢◌, ℕ, suc, ◌+◌, ◌-◌, ◌<◌, ◌≤◌, inr, ⊎_elim, Bool, true, false, List, ◌∷◌, length, None, refl, sym, ap, ap₂, ◌∙◌, subst, arith}
 use Rattle.std.specs.Prelude.{nat_le}
 use Rattle.std.proofs.lemmas.Bool.{leb-true, leb-false, cases_eq, cases_lt, true≢false, eq-eqb}
 use Rattle.device_model.specs.Meanings.{Meanings, IsSound as IsSoundDevice}
@@ -18,7 +18,6 @@ use Rattle.chain_core.specs.Cost.{is_fused, price, cost, leave_cost, fused_leave
 use Rattle.chain_core.specs.Enter.{new_frame, table_address, entered}
 use Rattle.chain_core.specs.Leave.{left}
 use Rattle.chain_core.specs.Judge.{claims_above}
-use Rattle.chain_core.specs.Start.{begun}
 use Rattle.chain_core.specs.ChainRun.{chained_at, Read, read_to}
 use Rattle.chain_core.specs.Walk.{walked}
 use Rattle.chain_core.specs.Watched.{Watched, with_service, without_service}
@@ -31,10 +30,9 @@ use Rattle.chain_core.specs.declared.dispatcher.Dispatcher.{Dispatcher}
 use Rattle.chain_core.specs.declared.dispatcher.Dispatcher.TheVariants.{Looping, Returning}
 use Rattle.chain_core.specs.declared.moves.Move.{Move}
 use Rattle.chain_core.specs.declared.moves.Move.TheVariants.{Enter, Leave}
-use Rattle.chain_core.specs.declared.chain_end.ChainEnd.TheVariants.{BudgetSpent, Broken as BrokenOff}
 use Rattle.chain_core.specs.declared.entry.Entry.{Entry}
 use Rattle.chain_core.specs.declared.entry.Entry.TheVariants.{Refused, Admitted}
-use Rattle.chain_core.proofs.Bounded.{Late, spent_end, broken_end, services_are, late_last, broke_last}
+use Rattle.chain_core.proofs.Bounded.{Late}
 use Rattle.chain_core.proofs.Leaves.{left_live, left_unmoved, left_related}
 use Rattle.chain_core.proofs.Enters.{IsUntested, passes, entered_inputs, entered_bodies}
 use Rattle.chain_core.proofs.Fused.{claims_after, fused_related}
@@ -44,7 +42,7 @@ use Rattle.chain_core.proofs.Readings.{with_return}
 use Rattle.chain_core.proofs.MoveRuns.{InRun, with_service as read_service, leave_in_run, five_in_run, mid_in_run, two_in_run}
 use Rattle.chain_core.proofs.Turns.{Leaves, Fuses, EntryMeans}
 use Rattle.chain_core.proofs.Watching.{left_watched, fused_watched}
-use Rattle.chain_core.proofs.Standing.{goes_at, goes_to, Stood, Final, Means}
+use Rattle.chain_core.proofs.Standing.{goes_at, goes_to, StoodFrom, SpentFrom, MeansFrom}
 use Rattle.chain_core.proofs.RoundsBegin.{enter_whole, next_cost, half_cost, mark_is, read_entered, spent_now, still_listed}
 
 -- a fused pair is the looping dispatcher's
@@ -52,13 +50,17 @@ pub looping : (d : Dispatcher) (claims : Bool) → is_fused d Leave claims ≡ t
 looping Looping claims e = refl
 looping Returning claims e = absurd (true≢false (sym e))
 
+fused_claims : (d : Dispatcher) (claims : Bool) → is_fused d Leave claims ≡ true → claims ≡ true
+fused_claims Looping claims e = e
+fused_claims Returning claims e = absurd (true≢false (sym e))
+
 -- what is read off as a service ends
 read_left : (s : Servicing) (v : Live) (vs : List Live) (r : Read) → s.live ≡ v ∷ vs → r ≡ record { depth = length s.live; services = s.services } → with_return r ≡ record { depth = length (left s v vs).live; services = (left s v vs).services }
 read_left s v vs r live e =
     let depth : length s.live - 1 ≡ length (left s v vs).live = (let n : length s.live ≡ suc (length vs) = ap length live in let k : length s.live - 1 ≡ length vs = omega (arith, n) in k) ∙ sym (ap length (left_live s v vs)) in
     ap with_return e ∙ ap₂ (λ n l. record { depth = n; services = l }) depth (sym (left_unmoved s v vs).services)
 
-module _ (m : Meanings) (es : List Event) (sound : IsSoundDevice m) (from : ℕ) (d : Dispatcher) (bound : ℕ) (b : State) (p : Progress) (w : Watched) (n : ℕ) (st : Stood m es from d bound b p w n) (runs : m.halted st.state.outside.device ≡ None) where
+module _ (m : Meanings) (es : List Event) (sound : IsSoundDevice m) (from : ℕ) (d : Dispatcher) (bound : ℕ) (b : State) (start : Servicing) (at : ℕ) (p : Progress) (w : Watched) (n : ℕ) (st : StoodFrom m es from d bound b start at p w n) (runs : m.halted st.state.outside.device ≡ None) where
   abbrev s : Servicing
   s = st.state
 
@@ -70,7 +72,7 @@ module _ (m : Meanings) (es : List Event) (sound : IsSoundDevice m) (from : ℕ)
     not_fused : is_fused d Leave (claims_above (top s.outside.clic) (innermost_level (marks u.others)) s.threshold) ≡ false
     not_fused = ap (is_fused d Leave) (sym (claims_after m d s x st.related u.at_back u.innermost u.others u.is_live)) ∙ u.is_fused
 
-    pub leaving : (reaches : Bool) → nat_le leave_cost (bound - n) ≡ reaches → Means m es from d bound b n (round_leave m es (bound - n) p w reaches)
+    pub leaving : (reaches : Bool) → nat_le leave_cost (bound - n) ≡ reaches → MeansFrom m es from d bound b start at n (round_leave m es (bound - n) p w reaches)
     leaving true enough =
         let room : 16 ≤ bound - n = leb-true 16 (bound - n) enough in
         let run = leave_in_run m es b n s.bodies d s x st.related runs st.stands u.innermost u.others u.is_live u.at_back u.calm not_fused in
@@ -82,7 +84,7 @@ module _ (m : Meanings) (es : List Event) (sound : IsSoundDevice m) (from : ℕ)
             state = left s u.innermost u.others;
             rest = rest_left x u.innermost u.others;
             leads = (s, st.leads, u.makes, refl);
-            costs = next_cost m es d st.made k n st.costs st.whole ∙ ap (λ f. n + price Leave false f) u.is_fused;
+            costs = next_cost m es d st.made k at n st.costs st.whole ∙ ap (λ f. n + price Leave false f) u.is_fused;
             whole = u.is_fused;
             within = omega (arith, room);
             related = left_related m d s x st.related u.at_back sound u.innermost u.others u.is_live (rest_left x u.innermost u.others) refl refl;
@@ -96,8 +98,8 @@ module _ (m : Meanings) (es : List Event) (sound : IsSoundDevice m) (from : ℕ)
     leaving false few =
         let short : bound - n < 16 = leb-false 16 (bound - n) few in
         let run = leave_in_run m es b n s.bodies d s x st.related runs st.stands u.innermost u.others u.is_live u.at_back u.calm not_fused in
-        let c = next_cost m es d st.made (record { kind = Leave; claims = claims (left s u.innermost u.others) }) n st.costs st.whole ∙ ap (λ f. n + price Leave false f) u.is_fused in
-        spent_now m es from d bound b p w n st (Makes Leave (left s u.innermost u.others)) u.makes (omega (arith, c, short, st.within)) (still_listed m es from d bound b p w n st 16 (with_return (read_to m es b n)) run.read_inside refl short)
+        let c = next_cost m es d st.made (record { kind = Leave; claims = claims (left s u.innermost u.others) }) at n st.costs st.whole ∙ ap (λ f. n + price Leave false f) u.is_fused in
+        spent_now m es from d bound b start at p w n st (Makes Leave (left s u.innermost u.others)) u.makes (omega (arith, c, short, st.within)) (still_listed m es from d bound b start at p w n st 16 (with_return (read_to m es b n)) run.read_inside refl short)
 
   -- ---- a Leave, and on with the next service
   module _ (e : Entry) (u : Fuses m es d s x (move m es s) e) where
@@ -122,23 +124,23 @@ module _ (m : Meanings) (es : List Event) (sound : IsSoundDevice m) (from : ℕ)
     five : InRun m es b n 5 s.bodies (walked m 5 (board_of s x)).state five_told (with_return (read_to m es b n)) (with_return (read_to m es b n))
     five = five_in_run m es b n s.bodies s x v vs t related runs u.leaves.is_live u.leaves.at_back u.is_top st.stands u.leaves.calm u.soft u.above
 
-    leads : Leads (servicing_machine m es) (k ∷ st.made) (begun m es b) between
+    leads : Leads (servicing_machine m es) (k ∷ st.made) start between
     leads = (s, st.leads, u.leaves.makes, refl)
 
-    costs : cost (servicing_machine m es) d (k ∷ st.made) ≡ n + 5
-    costs = next_cost m es d st.made k n st.costs st.whole ∙ ap (λ f. n + price Leave false f) u.leaves.is_fused
+    costs : at + cost (servicing_machine m es) d (k ∷ st.made) ≡ n + 5
+    costs = next_cost m es d st.made k at n st.costs st.whole ∙ ap (λ f. n + price Leave false f) u.leaves.is_fused
 
     read_five : read_to m es b (n + 5) ≡ record { depth = length between.live; services = between.services }
     read_five = five.read_after ∙ read_left s v vs (read_to m es b n) u.leaves.is_live st.read
 
     -- too few steps are left for the Leave
-    fuse_short : bound - n < 5 → Final m es from d bound b BudgetSpent bound (goes m es (bound - n) p)
+    fuse_short : bound - n < 5 → SpentFrom m es from d bound b start at (goes m es (bound - n) p)
     fuse_short short =
         let c = costs in
-        spent_now m es from d bound b p w n st (Makes Leave between) u.leaves.makes (omega (arith, c, short, st.within)) (still_listed m es from d bound b p w n st 5 (with_return (read_to m es b n)) five.read_inside refl short)
+        spent_now m es from d bound b start at p w n st (Makes Leave between) u.leaves.makes (omega (arith, c, short, st.within)) (still_listed m es from d bound b start at p w n st 5 (with_return (read_to m es b n)) five.read_inside refl short)
 
     -- the Enter breaks
-    pub parted : (kind : Broken) (reaches : Bool) → nat_le fused_leave_cost (bound - n) ≡ reaches → move m es between ≡ Breaks Before kind between.bodies → Means m es from d bound b n (round_parted m es (bound - n) p w reaches kind)
+    pub parted : (kind : Broken) (reaches : Bool) → nat_le fused_leave_cost (bound - n) ≡ reaches → move m es between ≡ Breaks Before kind between.bodies → MeansFrom m es from d bound b start at n (round_parted m es (bound - n) p w reaches kind)
     parted kind false few breaks = fuse_short (leb-false 5 (bound - n) few)
     parted kind true enough breaks =
         let room : 5 ≤ bound - n = leb-true 5 (bound - n) enough in
@@ -146,10 +148,16 @@ module _ (m : Meanings) (es : List Event) (sound : IsSoundDevice m) (from : ℕ)
         let now : goes m es 5 p ≡ progress_at m es b (n + 5) = ap (goes m es 5) st.progress ∙ goes_at m es b 5 n in
         let bodies : (goes m es 5 p).bodies ≡ between.bodies = ap (λ (q : Progress). q.bodies) now ∙ (ap (λ (q : Stand). q.count) five.stands ∙ sym (left_unmoved s v vs).bodies) in
         record {
-          ends = broken_end (servicing_machine m es) d (begun m es b) bound (k ∷ st.made) between Before kind between.bodies leads breaks (omega (arith, c, room))
-              ∙ ap₂ (λ j steps. record { end = BrokenOff kind j; steps = steps }) (sym bodies) c;
+          made = k ∷ st.made;
+          state = between;
+          when = Before;
+          leads = leads;
+          breaks = breaks ∙ ap (Breaks Before kind) (sym bodies);
+          soft = inr (fused_claims d (claims between) u.leaves.is_fused);
+          steps_are = c;
+          within = omega (arith, c, room);
           progress = now;
-          services = ap (λ (r : Read). r.services) read_five ∙ sym (services_are (servicing_machine m es) d (begun m es b) bound (k ∷ st.made) between leads (omega (arith, c, room)) (broke_last (servicing_machine m es) d (begun m es b) bound (k ∷ st.made) (move m es between) Before kind between.bodies breaks));
+          services = ap (λ (r : Read). r.services) read_five;
         }
 
     -- the table's word isn't at address 0
@@ -168,7 +176,7 @@ module _ (m : Meanings) (es : List Event) (sound : IsSoundDevice m) (from : ℕ)
     two untested = two_in_run m es b (n + 5) s.bodies s x v vs t related runs u.leaves.is_live u.leaves.at_back u.is_top (two_stands untested) untested
 
     -- the Enter is made
-    pub fused : (frame : ℕ) (reaches : Bool) → nat_le fused_cost (bound - n) ≡ reaches → EntryMeans between t (move m es between) (Admitted frame) → Means m es from d bound b n (round_fused m es (bound - n) p w reaches frame)
+    pub fused : (frame : ℕ) (reaches : Bool) → nat_le fused_cost (bound - n) ≡ reaches → EntryMeans between t (move m es between) (Admitted frame) → MeansFrom m es from d bound b start at n (round_fused m es (bound - n) p w reaches frame)
     fused frame true enough (frame_is, untested, made) =
         let room : 7 ≤ bound - n = leb-true 7 (bound - n) enough in
         let run = two untested in
@@ -184,7 +192,7 @@ module _ (m : Meanings) (es : List Event) (sound : IsSoundDevice m) (from : ℕ)
             state = entered between t;
             rest = rest_fused x vs t;
             leads = (between, leads, made, refl);
-            costs = half_cost m es d (k ∷ st.made) j (n + 5) costs u.leaves.is_fused ∙ seven;
+            costs = half_cost m es d (k ∷ st.made) j at (n + 5) costs u.leaves.is_fused ∙ seven;
             whole = enter_whole d (claims (entered between t));
             within = omega (arith, room);
             related = fused_related m d s x st.related u.leaves.at_back sound v vs t u.leaves.is_live untested u.is_top u.above (rest_fused x vs t) refl refl;
@@ -207,8 +215,8 @@ module _ (m : Meanings) (es : List Event) (sound : IsSoundDevice m) (from : ℕ)
         let run = two untested in
         let c = costs in
         let j : Made Move = record { kind = Enter; claims = claims (entered between t) } in
-        let c' = half_cost m es d (k ∷ st.made) j (n + 5) costs u.leaves.is_fused in
-        let late : Late (servicing_machine m es) d (begun m es b) bound (k ∷ st.made) (move m es between) = subst (Late (servicing_machine m es) d (begun m es b) bound (k ∷ st.made)) (sym made) (omega (arith, c', short, st.within)) in
+        let c' = half_cost m es d (k ∷ st.made) j at (n + 5) costs u.leaves.is_fused in
+        let late : Late (servicing_machine m es) d start (bound - at) (k ∷ st.made) (move m es between) = subst (Late (servicing_machine m es) d start (bound - at) (k ∷ st.made)) (sym made) (omega (arith, c', short, st.within)) in
         let rest : bound - n - 5 < 2 = omega (arith, l, short) in
         let all : n + 5 + (bound - n - 5) ≡ bound = omega (arith, l, st.within) in
         let listed : (read_to m es b bound).services ≡ between.services =
@@ -219,12 +227,16 @@ module _ (m : Meanings) (es : List Event) (sound : IsSoundDevice m) (from : ℕ)
         (cases_eq (bound - n - 5) 0)
         ∙ ap (λ (r : Read). r.services) read_five) in
         record {
-          ends = spent_end (servicing_machine m es) d (begun m es b) bound (k ∷ st.made) between leads late;
+          made = k ∷ st.made;
+          state = between;
+          leads = leads;
+          within = omega (arith, c, l, st.within);
+          late = late;
           progress = ap (goes m es (bound - n)) st.progress ∙ goes_to m es b bound n st.within;
-          services = listed ∙ sym (services_are (servicing_machine m es) d (begun m es b) bound (k ∷ st.made) between leads (omega (arith, c, l, st.within)) (late_last (servicing_machine m es) d (begun m es b) bound (k ∷ st.made) (move m es between) late));
+          services = listed;
         })
         (cases_lt (bound - n) 5)
 
-  pub fuse_round : (e : Entry) → Fuses m es d s x (move m es s) e → Means m es from d bound b n (round_fuse m es (bound - n) p w e)
+  pub fuse_round : (e : Entry) → Fuses m es d s x (move m es s) e → MeansFrom m es from d bound b start at n (round_fuse m es (bound - n) p w e)
   fuse_round (Refused kind) u = parted (Refused kind) u kind (nat_le fused_leave_cost (bound - n)) refl u.enters
   fuse_round (Admitted frame) u = fused (Admitted frame) u frame (nat_le fused_cost (bound - n)) refl u.enters

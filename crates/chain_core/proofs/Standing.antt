@@ -1,5 +1,5 @@
 -- Where a chain stands between two rounds, and at its end.
-use Rattle.std.proofs.Common.{◌≡◌, ℕ, zero, suc, ◌+◌, ◌-◌, ◌<◌, ◌≤◌, ◌==◌, Bool, true, false, List, [], ◌∷◌, ◌++◌, length, refl, sym, ap, ◌∙◌, subst, arith, length-append}
+use Rattle.std.proofs.Common.{◌≡◌, ℕ, zero, suc, ◌+◌, ◌-◌, ◌<◌, ◌≤◌, ◌==◌, ◌⊎◌, Bool, true, false, List, [], ◌∷◌, ◌++◌, length, refl, sym, ap, ap₂, ◌∙◌, subst, arith, length-append}
 use Rattle.device_model.specs.Meanings.{Meanings}
 use Rattle.hart_board.specs.State.{State}
 use Rattle.hart_board.specs.Step.{step}
@@ -12,9 +12,10 @@ use Rattle.hart_report.specs.declared.stepped.Stepped.TheVariants.{Retired, Inte
 use Rattle.chain_core.specs.Slot.{call, back}
 use Rattle.chain_core.specs.Servicing.{Servicing}
 use Rattle.chain_core.specs.Run.{Made, Over, run_to, Leads}
-use Rattle.chain_core.specs.Moves.{servicing_machine}
+use Rattle.chain_core.specs.Machine.{When, Breaks, Ends as MachineEnds}
+use Rattle.chain_core.specs.Moves.{move, claims, servicing_machine}
 use Rattle.chain_core.specs.Cost.{cost, is_halfway}
-use Rattle.chain_core.specs.End.{end_at, services_within}
+use Rattle.chain_core.specs.End.{steps_before, steps_needed, end_at, services_within}
 use Rattle.chain_core.specs.Start.{begun}
 use Rattle.chain_core.specs.ChainRun.{is_body, chained_at, Read, read_at, read_by, read_to}
 use Rattle.chain_core.specs.Watched.{Watched, watched_of}
@@ -23,12 +24,14 @@ use Rattle.chain_core.specs.Related.{Related}
 use Rattle.chain_core.specs.Progress.{Progress, counted, counted_by, gone, goes, progress_at}
 use Rattle.chain_core.specs.Rounds.{Rounded, steps_made}
 use Rattle.chain_core.specs.declared.dispatcher.Dispatcher.{Dispatcher}
+use Rattle.chain_core.specs.declared.broken.Broken.{Broken}
 use Rattle.chain_core.specs.declared.moves.Move.{Move}
 use Rattle.chain_core.specs.declared.chain_end.ChainEnd.{ChainEnd}
 use Rattle.chain_core.specs.declared.chain_end.ChainEnd.TheVariants.{Done, BudgetSpent, Broken as BrokenOff}
 use Rattle.chain_core.specs.declared.round.Round.{Round}
 use Rattle.chain_core.specs.declared.round.Round.TheVariants.{Made as RoundMade, Failed, Ended, Spent}
-use Rattle.chain_core.proofs.Bounded.{made_before_end}
+use Rattle.chain_core.proofs.Ends.{over_at, needed_more}
+use Rattle.chain_core.proofs.Bounded.{Late, made_before_end, done_end, broken_end, spent_end, services_are, late_last, broke_last, over_last}
 
 -- ---- progress by steps
 
@@ -103,21 +106,78 @@ at_most m es b (suc k) =
 -- ---- between rounds, and at the end
 
 module _ (m : Meanings) (es : List Event) (from : ℕ) (d : Dispatcher) (bound : ℕ) (b : State) where
-  -- some moves were made, and are no half of a fused pair; the board has made as many steps as they cost, and stands beside the servicing state
-  pub record Stood (p : Progress) (w : Watched) (n : ℕ) : Type 0 where
-    pub made : List (Made Move)
-    pub state : Servicing
-    pub rest : Rest
-    pub leads : Leads (servicing_machine m es) made (begun m es b) state
-    pub costs : cost (servicing_machine m es) d made ≡ n
-    pub whole : is_halfway (servicing_machine m es) d made ≡ false
-    pub within : n ≤ bound
-    pub related : Related m d state rest
-    pub events : AreEventsFrom state.outside.clic.shape.inputs from es
-    pub stands : chained_at m es b n ≡ record { count = state.bodies; board = board_of state rest }
-    pub read : read_to m es b n ≡ record { depth = length state.live; services = state.services }
-    pub progress : p ≡ progress_at m es b n
-    pub watch : w ≡ watched_of state
+  -- ---- what a round says, from any state that the board stands beside after so many steps
+  module _ (start : Servicing) (at : ℕ) where
+    -- some moves were made, and are no half of a fused pair; the board has made as many steps as they cost, and stands beside the servicing state
+    pub record StoodFrom (p : Progress) (w : Watched) (n : ℕ) : Type 0 where
+      pub made : List (Made Move)
+      pub state : Servicing
+      pub rest : Rest
+      pub leads : Leads (servicing_machine m es) made start state
+      pub costs : at + cost (servicing_machine m es) d made ≡ n
+      pub whole : is_halfway (servicing_machine m es) d made ≡ false
+      pub within : n ≤ bound
+      pub related : Related m d state rest
+      pub events : AreEventsFrom state.outside.clic.shape.inputs from es
+      pub stands : chained_at m es b n ≡ record { count = state.bodies; board = board_of state rest }
+      pub read : read_to m es b n ≡ record { depth = length state.live; services = state.services }
+      pub progress : p ≡ progress_at m es b n
+      pub watch : w ≡ watched_of state
+
+    -- after some moves a test holds, and the bound reaches to it; it is made where the round began, n steps after the start, or where an Enter of an input that is not hardware-vectored is due
+    pub record BrokeFrom (n : ℕ) (kind : Broken) (steps : ℕ) (p : Progress) : Type 0 where
+      pub made : List (Made Move)
+      pub state : Servicing
+      pub when : When
+      pub leads : Leads (servicing_machine m es) made start state
+      pub breaks : move m es state ≡ Breaks when kind p.bodies
+      pub soft : (at + cost (servicing_machine m es) d made ≡ n) ⊎ (claims state ≡ true)
+      pub steps_are : at + steps_before when (cost (servicing_machine m es) d made) ≡ steps
+      pub within : at + steps_needed when (cost (servicing_machine m es) d made) ≤ bound
+      pub progress : p ≡ progress_at m es b steps
+      pub services : (read_to m es b steps).services ≡ state.services
+
+    -- after some moves the board has halted with no service live
+    pub record OverFrom (n : ℕ) (p : Progress) (w : Watched) : Type 0 where
+      pub made : List (Made Move)
+      pub state : Servicing
+      pub rest : Rest
+      pub leads : Leads (servicing_machine m es) made start state
+      pub costs : at + cost (servicing_machine m es) d made ≡ n
+      pub within : n ≤ bound
+      pub ends : move m es state ≡ MachineEnds
+      pub related : Related m d state rest
+      pub board : p.board ≡ board_of state rest
+      pub bodies : p.bodies ≡ state.bodies
+      pub none : state.live ≡ []
+      pub progress : p ≡ progress_at m es b n
+      pub services : (read_to m es b n).services ≡ state.services
+      pub watch : w ≡ watched_of state
+
+    -- what is due after some moves is beyond the bound
+    pub record SpentFrom (p : Progress) : Type 0 where
+      pub made : List (Made Move)
+      pub state : Servicing
+      pub leads : Leads (servicing_machine m es) made start state
+      pub within : at + cost (servicing_machine m es) d made ≤ bound
+      pub late : Late (servicing_machine m es) d start (bound - at) made (move m es state)
+      pub progress : p ≡ progress_at m es b bound
+      pub services : (read_to m es b bound).services ≡ state.services
+
+    -- of a round that begins after n steps
+    abbrev pub RoundMeansFrom : ℕ → Round → Progress → Watched → Type 0
+    RoundMeansFrom n (RoundMade k) p w = (0 < k) × StoodFrom p w (n + k)
+    RoundMeansFrom n (Failed kind k) p w = BrokeFrom n kind (n + k) p
+    RoundMeansFrom n Ended p w = OverFrom n p w
+    RoundMeansFrom n Spent p w = SpentFrom p
+
+    abbrev pub MeansFrom : ℕ → Rounded → Type 0
+    MeansFrom n o = RoundMeansFrom n o.told o.progress o.watch
+
+  -- ---- the same from the start of a chain
+
+  abbrev pub Stood : Progress → Watched → ℕ → Type 0
+  Stood p w n = StoodFrom (begun m es b) 0 p w n
 
   -- the machine's run ends so, and the board has made so many steps
   pub record Final (end : ChainEnd) (steps : ℕ) (p : Progress) : Type 0 where
@@ -145,6 +205,58 @@ module _ (m : Meanings) (es : List Event) (from : ℕ) (d : Dispatcher) (bound :
 
   abbrev pub Means : ℕ → Rounded → Type 0
   Means n o = RoundMeans n o.told o.progress o.watch
+
+  broke_final : (n : ℕ) (kind : Broken) (steps : ℕ) (p : Progress) → BrokeFrom (begun m es b) 0 n kind steps p → Final (BrokenOff kind p.bodies) steps p
+  broke_final n kind steps p h =
+      let c : ℕ = cost (servicing_machine m es) d h.made in
+      let e = h.steps_are in
+      let steps_are : steps_before h.when c ≡ steps = omega (arith, e) in
+      record {
+        ends = broken_end (servicing_machine m es) d (begun m es b) bound h.made h.state h.when kind p.bodies h.leads h.breaks (omega (arith, h.within))
+            ∙ ap (λ k. record { end = BrokenOff kind p.bodies; steps = k }) steps_are;
+        progress = h.progress;
+        services = h.services ∙ sym (services_are (servicing_machine m es) d (begun m es b) bound h.made h.state h.leads (omega (arith, h.within, needed_more (servicing_machine m es) d h.when c)) (broke_last (servicing_machine m es) d (begun m es b) bound h.made (move m es h.state) h.when kind p.bodies h.breaks));
+      }
+
+  over_final : (n : ℕ) (p : Progress) (w : Watched) → OverFrom (begun m es b) 0 n p w → Final (Done n p.bodies p.services) n p × AtHalt p w
+  over_final n p w h =
+      let e = h.costs in
+      let c : cost (servicing_machine m es) d h.made ≡ n = omega (arith, e) in
+      let many : p.services ≡ length h.state.services = ap (λ (q : Progress). q.services) h.progress ∙ ap length h.services in (
+        record {
+          ends = done_end (servicing_machine m es) d (begun m es b) bound h.made h.state h.leads h.ends (omega (arith, c, h.within))
+              ∙ (ap (λ k. record { end = Done k h.state.bodies (length h.state.services); steps = k }) c
+              ∙ ap₂ (λ i j. record { end = Done n i j; steps = n }) (sym h.bodies) (sym many));
+          progress = h.progress;
+          services = h.services ∙ sym (services_are (servicing_machine m es) d (begun m es b) bound h.made h.state h.leads (omega (arith, c, h.within)) (over_last (servicing_machine m es) d (begun m es b) bound h.made (move m es h.state) h.ends));
+        },
+        record {
+          made = h.made;
+          state = h.state;
+          rest = h.rest;
+          over = over_at (servicing_machine m es) d bound (begun m es b) h.state h.made h.leads h.ends (omega (arith, c, h.within));
+          related = h.related;
+          board = h.board;
+          none = h.none;
+          watch = h.watch;
+        },
+      )
+
+  spent_final : (p : Progress) → SpentFrom (begun m es b) 0 p → Final BudgetSpent bound p
+  spent_final p h =
+      let all : bound - 0 ≡ bound = omega arith in
+      let late : Late (servicing_machine m es) d (begun m es b) bound h.made (move m es h.state) = subst (λ k. Late (servicing_machine m es) d (begun m es b) k h.made (move m es h.state)) all h.late in
+      record {
+        ends = spent_end (servicing_machine m es) d (begun m es b) bound h.made h.state h.leads late;
+        progress = h.progress;
+        services = h.services ∙ sym (services_are (servicing_machine m es) d (begun m es b) bound h.made h.state h.leads (omega (arith, h.within)) (late_last (servicing_machine m es) d (begun m es b) bound h.made (move m es h.state) late));
+      }
+
+  pub from_start : (n : ℕ) (t : Round) (p : Progress) (w : Watched) → RoundMeansFrom (begun m es b) 0 n t p w → RoundMeans n t p w
+  from_start n (RoundMade k) p w h = h
+  from_start n (Failed kind k) p w h = broke_final n kind (n + k) p h
+  from_start n Ended p w h = over_final n p w h
+  from_start n Spent p w h = spent_final p h
 
   -- the steps of a round are made before the end
   pub made_within : (n : ℕ) (t : Round) (p : Progress) (w : Watched) → n ≤ bound → RoundMeans n t p w → n + steps_made (bound - n) t ≤ (end_at (servicing_machine m es) d bound (begun m es b)).steps

@@ -1,5 +1,7 @@
 -- Steps of a chain one after another, and what they add to the text.
-use Rattle.std.proofs.Common.{◌≡◌, ℕ, zero, suc, ◌+◌, ◌≤◌, Bool, true, false, List, [], ◌++◌, Option, Some, None, Result, Ok, Err, refl, sym, ap, ◌∙◌, subst, arith, append-nil, append_assoc}
+use Rattle.std.proofs.Common.{◌≡◌, ℕ, zero, suc, ◌+◌, ◌≤◌, Bool, true, false, List, [], ◌++◌, Option, Some, None, Result, Ok, Err, refl, sym, ap, ap₂, ◌∙◌, subst, arith, append-nil, append_assoc}
+use Rattle.std.specs.Prelude.{◌==◌, not, nat_le}
+use Rattle.std.proofs.lemmas.Bool.Decides.{nat_tests}
 use Rattle.std.specs.Result.{IsErr, is_ok}
 use Rattle.std.proofs.lemmas.Bool.{false≢true}
 use Rattle.board_outside.specs.Sink.{SinkView, Writes}
@@ -14,12 +16,23 @@ use Rattle.hart_board.specs.Event.{with_events}
 use Rattle.hart_board.specs.declared.event.Event.{Event}
 use Rattle.hart_board.proofs.Still.{tried_other}
 use Rattle.hart_board.proofs.Shapes.{step_has}
-use Rattle.chain_core.specs.Progress.{Progress, gone_by, gone, goes}
+use Rattle.chain_core.specs.Progress.{Progress, progress_of, counted_by, gone_by, gone, goes}
 use Rattle.chain_core.specs.Text.{turn_text, next_text, steps_text, Tells}
 use Rattle.chain_core.specs.Servicing.{is_foreground}
 use Rattle.chain_core.specs.Bytes.{marked, revived_at}
 use Rattle.chain_core.specs.Watched.{Watched}
-use Rattle.chain_core.specs.Rounds.{raised_code, tried_steps, halted_round, round_unless_halted, round, steps_made}
+use Rattle.chain_core.specs.Rounds.{raised_code, tried_steps, halted_round, round_body, round_verdict, round_due, round_unless_halted, round, steps_made}
+use Rattle.chain_core.specs.Cost.{body_cost}
+use Rattle.chain_core.specs.Judge.{judge_turn}
+use Rattle.chain_core.specs.Ready.{verdict_by, revived_by}
+use Rattle.chain_core.specs.declared.course.Course.{Course}
+use Rattle.chain_core.specs.declared.turn.Turn.TheVariants.{Body}
+use Rattle.chain_core.specs.declared.verdict.Verdict.{Verdict}
+use Rattle.chain_core.specs.ChainRun.{is_body}
+use Rattle.chain_core.specs.Slot.{in_slot, call, back}
+use Rattle.hart_exec.specs.declared.effect.Effect.{Effect}
+use Rattle.hart_exec.specs.declared.effect.Effect.TheVariants.{Go, Load, Store, System}
+use Rattle.hart_board.specs.Run.{Stand}
 use Rattle.chain_core.specs.declared.dispatcher.Dispatcher.{Dispatcher}
 use Rattle.hart_memory.specs.Place.{place}
 
@@ -175,3 +188,33 @@ halted_told m es trace d left p w o code e =
     let none : steps_made left (round_unless_halted m es d left p w (m.halted p.board.outside.device)).told ≡ 0 =
     ap (λ c. steps_made left (round_unless_halted m es d left p w c).told) e ∙ halted_none left (is_foreground w.live) in
     subst (λ n. Tells m es trace n true p p o o) (sym none) (nothing_told m es trace p o)
+
+-- ---- bodies
+outside_call : (pc : ℕ) → not (in_slot pc) ≡ true → ((pc == call) ≡ false) × ((pc == back) ≡ false)
+outside_call pc h = grind (arith, nat_tests)
+
+-- a body is neither a call nor a return
+pub body_counted : (p : Progress) (at : Stand) (told : Stepped) → is_body told ≡ true → counted_by p at told ≡ record { board = at.board; bodies = at.count; depth = p.depth; services = p.services }
+body_counted p at (Retired pc bits length) h = let out = outside_call pc h in rw (out.0, out.1) refl
+body_counted p at (Interrupted pc id) h = absurd (false≢true h)
+body_counted p at (Raised pc code) h = absurd (false≢true h)
+body_counted p at (Halted code) h = absurd (false≢true h)
+body_counted p at (VectorFault id) h = absurd (false≢true h)
+
+pub body_settled : (p : Progress) (at : Stand) (told : Stepped) (board : State) (c : Course) → is_body told ≡ true → record { count = c.bodies; board = board } ≡ at → c.depth ≡ p.depth → c.services ≡ p.services → progress_of board c ≡ counted_by p at told
+body_settled p at told board c h e d s =
+    ap (λ (t : Stand). record { board = t.board; bodies = t.count; depth = c.depth; services = c.services }) e
+    ∙ ap₂ (λ k n. record { board = at.board; bodies = at.count; depth = k; services = n }) d s
+    ∙ sym (body_counted p at told h)
+
+-- the round of a body, by what it asks for
+pub body_rounded : (m : Meanings) (es : List Event) (left : ℕ) (p : Progress) (w : Watched) (effect : Effect) (v : Verdict) → verdict_by effect ≡ v → round_body m es left p w (nat_le body_cost left) (revived_by w effect) ≡ round_verdict m es left p w v
+body_rounded m es left p w (Go rd value target) v e = ap (round_verdict m es left p w) e
+body_rounded m es left p w (Load rd at width signed) v e = ap (round_verdict m es left p w) e
+body_rounded m es left p w (Store at width value) v e = ap (round_verdict m es left p w) e
+body_rounded m es left p w System v e = ap (round_verdict m es left p w) e
+
+-- the round of a board that hasn't halted, where a body is due
+pub body_runs : (m : Meanings) (es : List Event) (d : Dispatcher) (left : ℕ) (p : Progress) (w : Watched) (v : Verdict) → m.halted p.board.outside.device ≡ None → judge_turn d p.board w ≡ Body v → round_verdict m es left p w v ≡ round m es d left p w
+unfolding round
+body_runs m es d left p w v e h = sym (ap (round_unless_halted m es d left p w) e ∙ ap (round_due m es left p w) h)

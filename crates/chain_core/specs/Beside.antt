@@ -22,9 +22,12 @@ pub record Rest : Type 0 where
 abbrev pub csrs_by : List Mark → Rest → CsrState → CsrState
 csrs_by live x c = record { mie = takes_interrupts live c.mie; mpie = c.mpie; mtvec_base = c.mtvec_base; mtvt = c.mtvt; mscratch = c.mscratch; mepc = x.mepc; interrupt = x.interrupt; mpil = x.mpil; exccode = x.exccode; mtval = x.mtval; mil = innermost_level live; th = c.th }
 
--- the board by that hart
+-- the board by that hart, and by what its fields are then
+abbrev pub board_with : (CsrState → CsrState) → Rest → State → State
+board_with fields x t = record { registers = t.registers; pc = t.pc; csrs = fields t.csrs; memory = record { rom = x.rom; ram = x.ram }; outside = t.outside; kept = x.kept }
+
 abbrev pub board_by : List Mark → Rest → State → State
-board_by live x t = record { registers = t.registers; pc = t.pc; csrs = csrs_by live x t.csrs; memory = record { rom = x.rom; ram = x.ram }; outside = t.outside; kept = x.kept }
+board_by live x t = board_with (csrs_by live x) x t
 
 abbrev pub board_of : Servicing → Rest → State
 board_of s x = board_by (marks s.live) x (hart s)

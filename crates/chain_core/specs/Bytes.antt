@@ -11,8 +11,12 @@ unfoldable pub some_byte : (ℕ → Bool) → ℕ → ℕ → Bool
 some_byte test at zero = false
 some_byte test at (suc count) = test at || some_byte test (at + 1) count
 
+-- the byte at a place of RAM is dead
+abbrev pub is_dead_at : List Bool → ℕ → Bool
+is_dead_at dead k = slice_index_or dead k false
+
 abbrev pub is_dead : List Bool → ℕ → Bool
-is_dead dead at = nat_le RAM_BASE at && slice_index_or dead (at - RAM_BASE) false
+is_dead dead at = nat_le RAM_BASE at && is_dead_at dead (at - RAM_BASE)
 
 -- no body may read the byte: it is in the slot, or dead
 abbrev pub is_hidden : List Bool → ℕ → Bool

@@ -19,6 +19,7 @@ pub mod Nesting
 pub mod Counts
 pub mod Watched
 pub mod Judge
+pub mod Ready
 pub mod Ranges
 pub mod Beside
 pub mod Agreement

@@ -14,7 +14,8 @@ use hart_report::{
     put_budget_end, put_halt_end, put_mstatus, put_output, put_pc_and_registers, put_ram, put_steps,
 };
 
-fn put_end<W: Sink>(end: ChainEnd, halted: Option<u32>, out: &mut W) -> Result<(), SinkFault>
+/// Writes how a chain ended: with which code, where the board has halted.
+pub fn put_end<W: Sink>(end: ChainEnd, halted: Option<u32>, out: &mut W) -> Result<(), SinkFault>
     ensures { Writes (is_ok result) (W.told out.old) (W.told out.new) (end_line end halted) }
 {
     match end {

@@ -87,8 +87,8 @@ pub fn claims_above(top: Option<Choice>, level: u8, threshold: u8) -> bool
     }
 }
 
-// Where a table has the handler of an input.
-fn table_address(table: u32, id: u32) -> u32
+/// Where a table has the handler of an input.
+pub fn table_address(table: u32, id: u32) -> u32
     ensures { result ≡ table_address table id }
 {
     table.wrapping_add(id.wrapping_mul(4))

@@ -2,6 +2,7 @@
 ghost use Rattle.std.specs.Prelude.{◌≡◌};
 ghost use Rattle.chain_core.specs.Tests.{first_broken, half_tests, first_tests, second_tests, instruction_tests};
 ghost use Rattle.chain_core.specs.Judge.{HasBytes, refused_or, judge_effect};
+ghost use Rattle.chain_core.specs.Ready.{verdict_by};
 
 use crate::broken::Broken;
 use crate::convention::is_permitted;
@@ -14,6 +15,16 @@ use rv_encoding::Ins;
 
 // The exception of a fetch outside memory.
 const FETCH_FAULT: u16 = 1;
+
+// What no test refuses, by what the instruction asks for.
+fn verdict_by(effect: Effect) -> Verdict
+    ensures { result ≡ verdict_by effect }
+{
+    match effect {
+        Effect::Store { at, width, .. } => Verdict::Reviving { at, width },
+        Effect::Go { .. } | Effect::Load { .. } | Effect::System => Verdict::Plain,
+    }
+}
 
 impl Watch {
     // The tests of a half-word that is fetched.
@@ -32,7 +43,7 @@ impl Watch {
 
     /// The tests of pc and of the half-word there.
     #[tactic(auto, unfolding(crate::specs::Tests::first_broken))]
-    pub(crate) fn first_test(&self, pc: u32) -> Option<Broken>
+    pub fn first_test(&self, pc: u32) -> Option<Broken>
         ensures { result ≡ first_broken (first_tests self.now.dead pc) }
     {
         if pc >= BASE && pc < SLOT_END {
@@ -43,7 +54,7 @@ impl Watch {
 
     /// The tests of the half-word after it, by whether it is fetched.
     #[tactic(auto, unfolding(crate::specs::Tests::first_broken))]
-    pub(crate) fn second_test(&self, is_long: bool, pc: u32) -> Option<Broken>
+    pub fn second_test(&self, is_long: bool, pc: u32) -> Option<Broken>
         ensures { result ≡ first_broken (second_tests is_long self.now.dead pc) }
     {
         if is_long {
@@ -53,40 +64,54 @@ impl Watch {
         }
     }
 
-    /// The tests of an access, by what the instruction asks for.
+    /// The tests of an access, by what the instruction asks for. One whose address isn't aligned
+    /// raises, and is left to the step.
+    #[inline(always)]
     #[tactic(auto, unfolding(crate::specs::Tests::first_broken))]
-    pub(crate) fn judge_effect(&self, effect: Effect) -> Verdict
+    pub(crate) fn access_test(&self, effect: Effect) -> Option<Broken>
         requires { HasBytes effect }
-        ensures { result ≡ judge_effect self.now effect }
+        ensures { refused_or result (verdict_by effect) ≡ judge_effect self.now effect }
     {
         match effect {
             Effect::Load { at, width, .. } => {
-                if at % width == 0 && self.hides(at, width) {
-                    Verdict::Refused(Broken::ReadsDispatch)
+                if self.hides(at, width) && at % width == 0 {
+                    Some(Broken::ReadsDispatch)
                 } else {
-                    Verdict::Plain
+                    None
                 }
             }
             Effect::Store { at, width, .. } => {
-                if at % width == 0 && self.meets(at, width) {
-                    Verdict::Refused(Broken::WritesFrame)
+                if self.meets(at, width) && at % width == 0 {
+                    Some(Broken::WritesFrame)
                 } else {
-                    Verdict::Reviving { at, width }
+                    None
                 }
             }
-            Effect::Go { .. } | Effect::System => Verdict::Plain,
+            Effect::Go { .. } | Effect::System => None,
+        }
+    }
+
+    /// The same, with the bytes that it stores where no test holds.
+    pub fn judge_effect(&self, effect: Effect) -> Verdict
+        requires { HasBytes effect }
+        ensures { result ≡ judge_effect self.now effect }
+    {
+        match self.access_test(effect) {
+            Some(kind) => Verdict::Refused(kind),
+            None => verdict_by(effect),
         }
     }
 
     /// The tests of an instruction that is spelled, and of what it asks for.
+    #[inline(always)]
     #[tactic(auto, unfolding(crate::specs::Tests::first_broken))]
-    pub(crate) fn judge_instruction(&self, ins: &Ins, effect: Effect) -> Verdict
+    pub(crate) fn instruction_test(&self, ins: &Ins, effect: Effect) -> Option<Broken>
         requires { HasBytes effect }
-        ensures { result ≡ refused_or (first_broken (instruction_tests self.now.live ins.now)) (judge_effect self.now effect) }
+        ensures { refused_or result (verdict_by effect) ≡ refused_or (first_broken (instruction_tests self.now.live ins.now)) (judge_effect self.now effect) }
     {
         if !is_permitted(self.is_foreground(), ins) {
-            return Verdict::Refused(Broken::CsrTouched);
+            return Some(Broken::CsrTouched);
         }
-        self.judge_effect(effect)
+        self.access_test(effect)
     }
 }

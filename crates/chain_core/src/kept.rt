@@ -1,6 +1,7 @@
 // The registers that a handler has to bring back.
 ghost use Rattle.std.specs.Prelude.{◌≡◌, ◌<◌, ◌||◌, ◌==◌, reverse};
 ghost use Rattle.hart_words.specs.Registers.{register};
+ghost use Rattle.chain_core.specs.Slot.{back};
 ghost use Rattle.chain_core.specs.Tests.{is_free, are_kept, is_lost};
 
 use crate::mark::Mark;
@@ -28,6 +29,7 @@ pub fn all(registers: &Regs) -> [u32; 32]
 }
 
 /// Whether each register that a handler has to bring back is as it was.
+#[inline(never)]
 pub fn keeps(kept: &[u32; 32], registers: &Regs) -> bool
     ensures { result ≡ are_kept kept.now registers.now 32 }
 {
@@ -39,17 +41,28 @@ pub fn keeps(kept: &[u32; 32], registers: &Regs) -> bool
     true
 }
 
-/// Whether the innermost handler, which stands last, returns, and a register is not as it was when the
-/// handler began.
-#[tactic(auto, using(crate::proofs::Turned::lost_none, crate::proofs::Turned::lost_elsewhere, crate::proofs::Turned::lost_here))]
-pub fn is_lost(marks: &[Mark], pc: u32, registers: &Regs) -> bool
-    ensures { result ≡ is_lost (reverse marks.now) pc registers.now }
+// Whether the innermost handler, which stands last, leaves a register that isn't as it was when the handler
+// began.
+#[inline(never)]
+#[tactic(auto, using(crate::proofs::Turned::lost_none, crate::proofs::Turned::lost_here))]
+fn has_changed(marks: &[Mark], registers: &Regs) -> bool
+    ensures { result ≡ is_lost (reverse marks.now) back registers.now }
 {
     if marks.is_empty() {
         return false;
     }
+    !keeps(&marks[marks.len() - 1].kept, registers)
+}
+
+/// Whether the innermost handler, which stands last, returns, and a register is not as it was when the
+/// handler began.
+#[inline(always)]
+#[tactic(auto, using(crate::proofs::Turned::lost_elsewhere))]
+pub fn is_lost(marks: &[Mark], pc: u32, registers: &Regs) -> bool
+    ensures { result ≡ is_lost (reverse marks.now) pc registers.now }
+{
     if pc != BACK {
         return false;
     }
-    !keeps(&marks[marks.len() - 1].kept, registers)
+    has_changed(marks, registers)
 }

@@ -1,8 +1,11 @@
 // Steps of a chain, with what is counted and written of them.
-ghost use Rattle.std.specs.Prelude.{◌≡◌, ◌<◌, ◌+◌, ◌^◌, ℕ, is_ok, IfOk};
+ghost use Rattle.std.specs.Prelude.{◌≡◌, ◌<◌, ◌+◌, ◌^◌, ℕ, true, false, None, is_ok, IfOk};
 ghost use Rattle.board_outside.specs.Sink.{Writes};
 ghost use Rattle.hart_board.specs.State.{State};
 ghost use Rattle.hart_board.specs.Run.{Stand, standing};
+ghost use Rattle.clic_select.specs.Top.{top};
+ghost use Rattle.clic_trap.specs.Due.{due};
+ghost use Rattle.hart_board.specs.Prepared.{IsPrepared};
 ghost use Rattle.hart_board.specs.Step.{step, tried};
 ghost use Rattle.chain_core.specs.ChainRun.{is_body};
 ghost use Rattle.chain_core.specs.Progress.{Progress, progress_of, counted_by, gone_by, HasRoom, IsOnCourse};
@@ -14,7 +17,7 @@ use crate::slot::{BACK, BASE, CALL, SLOT_END};
 use crate::telling::put_service;
 use board_outside::{Sink, SinkFault};
 use device_model::Device;
-use hart_board::{Board, Events, take_events};
+use hart_board::{Board, Events, Prepared, take_events};
 use hart_report::{Stepped, put_step};
 
 // Whether a body was made: an instruction retired outside the slot.
@@ -91,8 +94,38 @@ fn raised_code(told: &Stepped) -> Option<u16>
     }
 }
 
-// What follows a step that came to this: it is counted, events come, and its lines are written.
-fn settle<D: Device, W: Sink>(
+// What follows a body: events come, and its line is written. No call and no return is counted.
+#[inline(always)]
+fn settle_body<D: Device, W: Sink>(
+    board: &mut Board<D>,
+    events: &Events,
+    course: &mut Course,
+    told: &Stepped,
+    trace: bool,
+    out: &mut W,
+) -> Result<(), SinkFault>
+    requires body { is_body told.now ≡ true }
+    requires room { HasRoom course.old 1 }
+    requires course { IsOnCourse D.means events.now board.old course.old }
+    ensures course { IsOnCourse D.means events.now board.new course.new }
+    ensures progress { (start : State) → progress_of board.new course.new ≡ gone_by D.means events.now.list (progress_of start course.old) (record { told = told.now; state = board.old }) }
+    ensures text { Writes (is_ok result) (W.told out.old) (W.told out.new) (turn_text trace course.old.depth (record { told = told.now; state = board.old })) }
+    ensures hart { (board.new.pc ≡ board.old.pc) × (board.new.registers ≡ board.old.registers) }
+    ensures room { (n : ℕ) → HasRoom course.old (n + 1) → HasRoom course.new n }
+{
+    arrive(board, events, course, told);
+    if trace {
+        // The copy keeps the step itself in registers: only here is its place needed.
+        let told = *told;
+        put_step(trace, &told, out)
+    } else {
+        Ok(())
+    }
+}
+
+// What follows a step of the dispatcher: it is counted, and its lines are written.
+#[inline(never)]
+fn settle_move<D: Device, W: Sink>(
     board: &mut Board<D>,
     events: &Events,
     course: &mut Course,
@@ -113,6 +146,31 @@ fn settle<D: Device, W: Sink>(
     arrive(board, events, course, told);
     put_step(trace, told, out)?;
     tell_service(board, depth, told, out)
+}
+
+// What follows a step that came to this: it is counted, events come, and its lines are written.
+#[inline(always)]
+fn settle<D: Device, W: Sink>(
+    board: &mut Board<D>,
+    events: &Events,
+    course: &mut Course,
+    told: &Stepped,
+    trace: bool,
+    out: &mut W,
+) -> Result<(), SinkFault>
+    requires room { HasRoom course.old 1 }
+    requires course { IsOnCourse D.means events.now board.old course.old }
+    ensures course { IsOnCourse D.means events.now board.new course.new }
+    ensures progress { (start : State) → progress_of board.new course.new ≡ gone_by D.means events.now.list (progress_of start course.old) (record { told = told.now; state = board.old }) }
+    ensures text { Writes (is_ok result) (W.told out.old) (W.told out.new) (turn_text trace course.old.depth (record { told = told.now; state = board.old })) }
+    ensures hart { (board.new.pc ≡ board.old.pc) × (board.new.registers ≡ board.old.registers) }
+    ensures room { (n : ℕ) → HasRoom course.old (n + 1) → HasRoom course.new n }
+{
+    if !is_body(told) {
+        let told = *told;
+        return settle_move(board, events, course, &told, trace, out);
+    }
+    settle_body(board, events, course, told, trace, out)
 }
 
 /// One step of the board, with its events and its lines. Where the sink fails, the step is made all the
@@ -152,6 +210,38 @@ pub fn walk<D: Device, W: Sink>(
         make_step(board, events, course, trace, out)?;
     }
     Ok(())
+}
+
+/// A body whose instruction was prepared, as a step that is only tried: where it would be the entry of
+/// an exception, nothing changes, and the answer is that exception's code.
+#[inline(always)]
+pub fn try_body<D: Device, W: Sink>(
+    board: &mut Board<D>,
+    events: &Events,
+    course: &mut Course,
+    trace: bool,
+    out: &mut W,
+    prepared: &Prepared,
+) -> Result<Option<u16>, SinkFault>
+    requires runs { D.means.halted board.old.outside.device ≡ None }
+    requires calm { due board.old.csrs (top board.old.outside.clic) ≡ false }
+    requires prepared { IsPrepared board.old prepared.now }
+    requires room { HasRoom course.old 1 }
+    requires course { IsOnCourse D.means events.now board.old course.old }
+    ensures course { IsOnCourse D.means events.now board.new course.new }
+    ensures answer { IfOk result (λ raised. raised ≡ raised_code (tried D.means board.old).told) }
+    ensures progress { let turn = tried D.means board.old in progress_of board.new course.new ≡ tried_by D.means events.now.list (progress_of board.old course.old) turn (raised_code turn.told) }
+    ensures hart { let turn = tried D.means board.old in (board.new.pc ≡ turn.state.pc) × (board.new.registers ≡ turn.state.registers) }
+    ensures tells { Tells D.means events.now.list trace (tried_steps (raised_code (tried D.means board.old).told)) (is_ok result) (progress_of board.old course.old) (progress_of board.new course.new) (W.told out.old) (W.told out.new) }
+{
+    let told = board.try_prepared(prepared);
+    match raised_code(&told) {
+        Some(code) => Ok(Some(code)),
+        None => {
+            settle(board, events, course, &told, trace, out)?;
+            Ok(None)
+        }
+    }
 }
 
 /// A step that is only tried: where it would be the entry of an exception, nothing changes, and the

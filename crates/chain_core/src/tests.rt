@@ -3,7 +3,6 @@ ghost use Rattle.chain_core.specs.Judge.{HasBytes};
 use super::*;
 use crate::convention::is_permitted;
 use crate::entry::Entry;
-use crate::verdict::Verdict;
 use hart_exec::Effect;
 use hart_words::Regs;
 use rv_encoding::{CsrOp, Ins};
@@ -125,16 +124,16 @@ fn tests_of_a_load(rt: HostRuntime) -> Result<(), Fail> {
     let mut watch = Watch::new(rt.alloc())?;
     watch.enter(OUTER);
     let loads = [
-        (0x2000_00FC, Verdict::Plain),
-        (0x2000_0100, Verdict::Refused(Broken::ReadsDispatch)),
-        (0x2000_011C, Verdict::Refused(Broken::ReadsDispatch)),
-        (0x2000_011E, Verdict::Plain),
-        (0x0000_003C, Verdict::Plain),
-        (0x0000_0040, Verdict::Refused(Broken::ReadsDispatch)),
-        (0x0000_00BC, Verdict::Refused(Broken::ReadsDispatch)),
+        (0x2000_00FC, None),
+        (0x2000_0100, Some(Broken::ReadsDispatch)),
+        (0x2000_011C, Some(Broken::ReadsDispatch)),
+        (0x2000_011E, None),
+        (0x0000_003C, None),
+        (0x0000_0040, Some(Broken::ReadsDispatch)),
+        (0x0000_00BC, Some(Broken::ReadsDispatch)),
     ];
     for (at, want) in loads {
-        assert_eq!(rt; watch.judge_effect(load(at)), want);
+        assert_eq!(rt; watch.access_test(load(at)), want);
     }
     Ok(())
 }
@@ -151,16 +150,13 @@ fn tests_of_a_store(rt: HostRuntime) -> Result<(), Fail> {
     ];
     for (at, meets) in stores {
         let want = if meets {
-            Verdict::Refused(Broken::WritesFrame)
+            Some(Broken::WritesFrame)
         } else {
-            Verdict::Reviving { at, width: 4 }
+            None
         };
         let value = 0;
         let width = 4;
-        assert_eq!(rt;
-            watch.judge_effect(Effect::Store { at, width, value }),
-            want
-        );
+        assert_eq!(rt; watch.access_test(Effect::Store { at, width, value }), want);
     }
     Ok(())
 }
@@ -172,10 +168,10 @@ fn bytes_that_are_revived(rt: HostRuntime) -> Result<(), Fail> {
     watch.enter(OUTER);
     watch.leave();
     watch.revive(0x2000_0110, 4);
-    assert_eq!(rt; watch.judge_effect(load(0x2000_0110)), Verdict::Plain);
+    assert_eq!(rt; watch.access_test(load(0x2000_0110)), None);
     assert_eq!(rt;
-        watch.judge_effect(load(0x2000_0114)),
-        Verdict::Refused(Broken::ReadsDispatch)
+        watch.access_test(load(0x2000_0114)),
+        Some(Broken::ReadsDispatch)
     );
     Ok(())
 }

@@ -7,9 +7,10 @@ ghost use Rattle.chain_core.specs.Servicing.{is_foreground, innermost_level};
 ghost use Rattle.chain_core.specs.Bytes.{some_byte, is_hidden, in_live_frame, revived_at};
 ghost use Rattle.chain_core.specs.Tests.{is_lost};
 ghost use Rattle.chain_core.specs.Judge.{judge_entry};
+ghost use Rattle.chain_core.specs.Ready.{revived_by};
 ghost use Rattle.chain_core.specs.Watched.{Watched, nothing_watched, with_service, without_service, outside_of};
 
-use crate::dead::{alive, hides_some, is_dead, mark};
+use crate::dead::{alive, hides_some, is_dead, mark, revive};
 use crate::entering::test_entry;
 use crate::entry::Entry;
 use crate::frames::{meets, without_last};
@@ -17,6 +18,7 @@ use crate::kept::is_lost;
 use crate::mark::Mark;
 use crate::slot::FRAME_SIZE;
 use arrayvec::ArrayVec;
+use hart_exec::Effect;
 use hart_memory::{BANK_LEN, Place, RAM_BASE, place_of};
 use hart_report::DeadBytes;
 use hart_words::{Regs, WantOfMemory};
@@ -59,6 +61,7 @@ impl Watch {
     }
 
     /// Whether no service is live.
+    #[inline]
     pub(crate) fn is_foreground(&self) -> bool
         ensures { result ≡ is_foreground self.now.live }
     {
@@ -66,7 +69,8 @@ impl Watch {
     }
 
     /// Whether one of so many bytes from an address on is in the slot, or dead.
-    pub(crate) fn hides(&self, at: u32, count: u32) -> bool
+    #[inline(always)]
+    pub fn hides(&self, at: u32, count: u32) -> bool
         ensures { result ≡ some_byte (is_hidden self.now.dead) at count }
     {
         hides_some(&self.dead, at, count)
@@ -100,12 +104,24 @@ impl Watch {
     }
 
     /// So many bytes from an address on are stored, and dead no more.
-    pub(crate) fn revive(&mut self, at: u32, width: u32)
+    #[inline(always)]
+    pub fn revive(&mut self, at: u32, width: u32)
         ensures { self.new ≡ record self.old { dead = revived_at (place at width) width self.old.dead } }
     {
         match place_of(at, width) {
-            Place::InRam(k) => mark(&mut self.dead, k as usize, width as usize, false),
+            Place::InRam(k) => revive(&mut self.dead, k as usize, width as usize),
             Place::InRom(_) | Place::Elsewhere => {}
+        }
+    }
+
+    /// What is stored by this effect is dead no more.
+    #[inline(always)]
+    pub(crate) fn revive_by(&mut self, effect: Effect)
+        ensures { self.new ≡ revived_by self.old effect }
+    {
+        match effect {
+            Effect::Store { at, width, .. } => self.revive(at, width),
+            Effect::Go { .. } | Effect::Load { .. } | Effect::System => {}
         }
     }
 
@@ -139,6 +155,7 @@ impl Watch {
     }
 
     /// Whether a handler returns, and a register is not as it was when the handler began.
+    #[inline(always)]
     pub(crate) fn has_lost(&self, pc: u32, registers: &Regs) -> bool
         ensures { result ≡ is_lost self.now.live pc registers.now }
     {

@@ -3,6 +3,7 @@ use Rattle.std.proofs.lemmas.Result.{err_from_is_err_and}
 use Rattle.hart_board.specs.State.{State}
 use Rattle.hart_board.specs.Event.{AreEventsFrom}
 use Rattle.clic_regs.specs.Shape.{ClicShape}
+use Rattle.chain_core.specs.Start.{begun}
 use Rattle.chain_core.specs.Text.{Tells}
 use Rattle.hart_board.proofs.Shapes.{events_have}
 use Rattle.chain_core.specs.Progress.{Progress, progress_of}
@@ -34,7 +35,7 @@ round-requires-clause-enters g c =
     let es = c.args.events.now.list in
     let st = c.loop-count.invariant.stood in
     let p = progress_of c.loop-count.board c.loop-count.course in
-    λ runs frame e. enter_room m es g.met.D.Device.sound 0 c.args.d c.args.bound c.args.board.now p c.loop-count.watch c.loop-count.steps st (runs_still m es g.met.D.Device.sound 0 c.args.d c.args.bound c.args.board.now p c.loop-count.watch c.loop-count.steps st runs) frame e
+    λ runs frame e. enter_room m es g.met.D.Device.sound 0 c.args.d c.args.bound c.args.board.now (begun m es c.args.board.now) 0 p c.loop-count.watch c.loop-count.steps st (runs_still m es g.met.D.Device.sound 0 c.args.d c.args.bound c.args.board.now (begun m es c.args.board.now) 0 p c.loop-count.watch c.loop-count.steps st runs) frame e
 
 pub round-requires-clause-fuses : goal.round-requires-clause-fuses
 round-requires-clause-fuses g c =
@@ -42,7 +43,7 @@ round-requires-clause-fuses g c =
     let es = c.args.events.now.list in
     let st = c.loop-count.invariant.stood in
     let p = progress_of c.loop-count.board c.loop-count.course in
-    λ runs frame e. fuse_room m es g.met.D.Device.sound 0 c.args.d c.args.bound c.args.board.now p c.loop-count.watch c.loop-count.steps st (runs_still m es g.met.D.Device.sound 0 c.args.d c.args.bound c.args.board.now p c.loop-count.watch c.loop-count.steps st runs) frame e
+    λ runs frame e. fuse_room m es g.met.D.Device.sound 0 c.args.d c.args.bound c.args.board.now (begun m es c.args.board.now) 0 p c.loop-count.watch c.loop-count.steps st (runs_still m es g.met.D.Device.sound 0 c.args.d c.args.bound c.args.board.now (begun m es c.args.board.now) 0 p c.loop-count.watch c.loop-count.steps st runs) frame e
 
 pub round-requires-clause-room : goal.round-requires-clause-room
 round-requires-clause-room g c =

@@ -1,7 +1,7 @@
 use Rattle.std.proofs.Common.{◌+◌, ◌-◌, ◌||◌, sym, ap, ◌∙◌}
 use Rattle.chain_core.specs.Bytes.{some_byte, is_hidden}
 use Rattle.chain_core.proofs.Loops.{some_more, some_none}
-use Rattle.chain_core.proofs.dead.hides_some.Goals as goal
+use Rattle.chain_core.proofs.dead.hides_each.Goals as goal
 
 pub returns-then-hides : goal.returns-then-hides
 returns-then-hides c =

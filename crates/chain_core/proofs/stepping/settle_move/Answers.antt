@@ -1,7 +1,7 @@
 use Rattle.board_outside.proofs.Writing.{then_writes, stops_writing}
 use Rattle.std.proofs.Common.{sym}
 use Rattle.hart_report.proofs.Texts.{stopped}
-use Rattle.chain_core.proofs.stepping.settle.Goals as goal
+use Rattle.chain_core.proofs.stepping.settle_move.Goals as goal
 
 pub returns-in_err-put_step-clause-text : goal.returns-in_err-put_step-clause-text
 returns-in_err-put_step-clause-text g c = stopped c.from_residual.result c.from_residual.ensures.0 (stops_writing _ c.in_err-put_step.ensures.text)
