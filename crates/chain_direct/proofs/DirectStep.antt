@@ -25,9 +25,10 @@ use Rattle.chain_core.specs.declared.dispatcher.Dispatcher.{Dispatcher}
 use Rattle.chain_core.proofs.Nested.{passed}
 use Rattle.chain_core.proofs.Marking.{none_of}
 use Rattle.chain_core.proofs.TableWord.{table_reads}
-use Rattle.chain_direct.specs.Directed.{Direct, Directed}
+use Rattle.chain_direct.specs.Directed.{Directed}
 use Rattle.chain_direct.specs.DirectMoves.{begin_tests, vectored}
 use Rattle.chain_direct.specs.DirectBeside.{direct_csrs, direct_board_of}
+use Rattle.chain_direct.specs.DirectSteps.{new_direct}
 
 clear_is_even : (w : ℕ) → with_low_bits_clear w 1 ≡ even w
 clear_is_even w = omega arith
@@ -35,10 +36,6 @@ clear_is_even w = omega arith
 held_by : (b : Bool) → not b ≡ false → b ≡ true
 held_by true e = refl
 held_by false e = absurd cc
-
--- the service that begins
-abbrev pub new_direct : Directed → Choice → Direct
-new_direct s t = record { number = t.id; level = t.level; pc = s.chained.pc; kept = s.chained.registers }
 
 module _ (m : Meanings) (d : Dispatcher) (s : Directed) (x : Rest) (t : Choice) (r : Related m d s.chained x) (runs : m.halted s.chained.outside.device ≡ None) (is_top : top s.chained.outside.clic ≡ Some t) (is_due : is_enter_due s.chained (Some t) ≡ true) (hard : t.shv ≡ true) (untested : first_broken (begin_tests s.chained.dead (table_address s.chained.table t.id)) ≡ None) where
   abbrev b : State

@@ -36,7 +36,7 @@ use Rattle.chain_direct.specs.DirectKinds.{Chains, IsDirectMove}
 
 -- a Body that is counted, lists nothing and leaves the live services as they are
 abbrev pub IsPlainBody : Directed → Kind → Directed → Type 0
-IsPlainBody s kind t = (kind ≡ Plain Body) × (t.chained.bodies ≡ s.chained.bodies + 1) × (t.services ≡ s.services) × (t.chained.live ≡ s.chained.live)
+IsPlainBody s kind t = (kind ≡ Plain Body) × (t.chained.bodies ≡ s.chained.bodies + 1) × (t.services ≡ s.services) × (t.chained.live ≡ s.chained.live) × (t.chained.services ≡ s.chained.services)
 
 module _ (m : Meanings) (es : List Event) where
   -- ---- a direct service's instruction is a Body
@@ -45,12 +45,12 @@ module _ (m : Meanings) (es : List Event) where
   performed_plain s e (Err trap) = tt
   performed_plain s e (Ok new) =
       unless (IsPlainBody s) Before (first_broken (access_tests (marks s.chained.live) s.chained.dead e)) s.chained.bodies
-      (Makes (Plain Body) (record s { chained = with_its_events m es (with_hart s.chained new (dead_after s.chained.dead e)) })) (λ none. (refl, refl, refl, refl))
+      (Makes (Plain Body) (record s { chained = with_its_events m es (with_hart s.chained new (dead_after s.chained.dead e)) })) (λ none. (refl, refl, refl, refl, refl))
 
   made_plain : (s : Directed) (v : Direct) (bits length : ℕ) (ins : Ins) → WhereMade (IsPlainBody s) (direct_made m es s v bits length ins)
   made_plain s v bits length Mret =
       unless (IsPlainBody s) After (first_broken (ended_tests v s.chained.registers)) (s.chained.bodies + 1)
-      (Makes (Plain Body) (record s { chained = with_its_events m es (record s.chained { pc = v.pc; bodies = s.chained.bodies + 1 }); direct = None })) (λ none. (refl, refl, refl, refl))
+      (Makes (Plain Body) (record s { chained = with_its_events m es (record s.chained { pc = v.pc; bodies = s.chained.bodies + 1 }); direct = None })) (λ none. (refl, refl, refl, refl, refl))
   made_plain s v bits length ins = performed_plain s (effect ins length s.chained.registers s.chained.pc) (performed m (hart s.chained) ins bits length)
 
   decoded_plain : (s : Directed) (v : Direct) (bits length : ℕ) (o : Option Ins) → WhereMade (IsPlainBody s) (direct_decoded m es s v bits length o)

@@ -36,6 +36,10 @@ lifted (Makes kind t) = Makes (Plain kind) (beside_none t)
 lifted (Breaks when kind n) = Breaks when kind n
 lifted Ends = Ends
 
+-- a state with no direct service, and these services so far
+abbrev pub alone : Servicing → List Listed → Directed
+alone s l = record { chained = s; direct = None; services = l }
+
 abbrev pub plain : Made Move → Made Kind
 plain k = record { kind = Plain k.kind; claims = k.claims }
 
@@ -89,31 +93,39 @@ module _ (m : Meanings) (es : List Event) where
   hard_breaks : (s : Servicing) (t : Choice) → t.shv ≡ true → enter s t ≡ Breaks Before HardVectored s.bodies
   hard_breaks s t hard = enter_by s t t.shv hard
 
-  abbrev Meets : Servicing → Type 0
-  Meets s = (move m es s ≡ Breaks Before HardVectored s.bodies) ⊎ (direct_move m es (beside_none s) ≡ lifted (move m es s))
+  -- beside no direct service it makes the servicing machine's move, or that has met a hardware-vectored top
+  abbrev Meets : Servicing → List Listed → Type 0
+  Meets s l = (move m es s ≡ Breaks Before HardVectored s.bodies) ⊎ (direct_move m es (alone s l) ≡ with_move (alone s l) (move m es s))
 
-  same_alone : (s : Servicing) (o : Option Choice) (is_due : Bool) → m.halted s.outside.device ≡ None → top s.outside.clic ≡ o → is_enter_due s o ≡ is_due
-      → (move m es s ≡ Breaks Before HardVectored s.bodies) ⊎ (moved_alone m es (beside_none s) o is_due ≡ lifted (move m es s))
+  same_alone : (s : Servicing) (l : List Listed) (o : Option Choice) (is_due : Bool) → m.halted s.outside.device ≡ None → top s.outside.clic ≡ o → is_enter_due s o ≡ is_due
+      → (move m es s ≡ Breaks Before HardVectored s.bodies) ⊎ (moved_alone m es (alone s l) o is_due ≡ with_move (alone s l) (move m es s))
   unfolding move
-  same_alone s (Some t) true runs e due = by_shv t.shv refl
+  same_alone s l (Some t) true runs e due = by_shv t.shv refl
     where
-      by_shv : (shv : Bool) → t.shv ≡ shv → (move m es s ≡ Breaks Before HardVectored s.bodies) ⊎ (entering_by m es (beside_none s) t t.shv ≡ lifted (move m es s))
+      by_shv : (shv : Bool) → t.shv ≡ shv → (move m es s ≡ Breaks Before HardVectored s.bodies) ⊎ (entering_by m es (alone s l) t t.shv ≡ with_move (alone s l) (move m es s))
       by_shv true hard = inl (ap (move_unless_halted m es s) runs ∙ (ap₂ (move_by m es s) e (ap (is_enter_due s) e ∙ due) ∙ hard_breaks s t hard))
-      by_shv false soft = inr (ap (entering_by m es (beside_none s) t) soft ∙ with_same s (move m es s) refl)
-  same_alone s (Some t) false runs e due = inr (with_same s (move m es s) refl)
-  same_alone s None is_due runs e due = inr (with_same s (move m es s) refl)
+      by_shv false soft = inr (ap (entering_by m es (alone s l) t) soft)
+  same_alone s l (Some t) false runs e due = inr refl
+  same_alone s l None is_due runs e due = inr refl
 
-  same_move : (s : Servicing) → Meets s
+  pub moves_alone : (s : Servicing) (l : List Listed) → Meets s l
   unfolding direct_move
-  same_move s = by_halt (m.halted s.outside.device) refl
+  moves_alone s l = by_halt (m.halted s.outside.device) refl
     where
-      by_halt : (o : Option ℕ) → m.halted s.outside.device ≡ o → (move m es s ≡ Breaks Before HardVectored s.bodies) ⊎ (moved_by m es (beside_none s) None (m.halted s.outside.device) ≡ lifted (move m es s))
-      by_halt (Some code) h = inr (ap (moved_by m es (beside_none s) None) h ∙ with_same s (move m es s) refl)
+      by_halt : (o : Option ℕ) → m.halted s.outside.device ≡ o → (move m es s ≡ Breaks Before HardVectored s.bodies) ⊎ (moved_by m es (alone s l) None (m.halted s.outside.device) ≡ with_move (alone s l) (move m es s))
+      by_halt (Some code) h = inr (ap (moved_by m es (alone s l) None) h)
       by_halt None h =
           ⊎_elim
           (λ (e : move m es s ≡ Breaks Before HardVectored s.bodies). inl e)
-          (λ (e : moved_alone m es (beside_none s) (top s.outside.clic) (is_enter_due s (top s.outside.clic)) ≡ lifted (move m es s)). inr (ap (moved_by m es (beside_none s) None) h ∙ e))
-          (same_alone s (top s.outside.clic) (is_enter_due s (top s.outside.clic)) h refl refl)
+          (λ (e : moved_alone m es (alone s l) (top s.outside.clic) (is_enter_due s (top s.outside.clic)) ≡ with_move (alone s l) (move m es s)). inr (ap (moved_by m es (alone s l) None) h ∙ e))
+          (same_alone s l (top s.outside.clic) (is_enter_due s (top s.outside.clic)) h refl refl)
+
+  same_move : (s : Servicing) → (move m es s ≡ Breaks Before HardVectored s.bodies) ⊎ (direct_move m es (beside_none s) ≡ lifted (move m es s))
+  same_move s =
+      ⊎_elim
+      (λ (e : move m es s ≡ Breaks Before HardVectored s.bodies). inl e)
+      (λ (e : direct_move m es (beside_none s) ≡ with_move (beside_none s) (move m es s)). inr (e ∙ with_same s (move m es s) refl))
+      (moves_alone s (all_chained s.services))
 
   -- ---- runs
   same_claims : (t : Servicing) → direct_claims (beside_none t) ≡ claims t
@@ -162,7 +174,7 @@ module _ (m : Meanings) (es : List Event) where
       (lifts s (length made))
 
   -- ---- ends
-  same_halfway : (d : Dispatcher) (made : List (Made Move)) → is_halfway machine d (all_plain made) ≡ is_halfway chain_machine d made
+  pub same_halfway : (d : Dispatcher) (made : List (Made Move)) → is_halfway machine d (all_plain made) ≡ is_halfway chain_machine d made
   unfolding all_plain
   same_halfway d [] = refl
   same_halfway d (k ∷ made) = refl
@@ -196,7 +208,7 @@ module _ (m : Meanings) (es : List Event) where
       by_bound false e = ap (λ b. end_by b (BrokenOff HardVectored n) (cost chain_machine d made) bound) e
 
   -- whatever is due after moves beyond the bound is beyond it
-  all_late : (d : Dispatcher) (bound : ℕ) (s : Directed) (made : List (Made Kind)) (moved : Moved Kind Directed) → bound < cost machine d made → Late machine d s bound made moved
+  pub all_late : (d : Dispatcher) (bound : ℕ) (s : Directed) (made : List (Made Kind)) (moved : Moved Kind Directed) → bound < cost machine d made → Late machine d s bound made moved
   all_late d bound s made (Makes kind u) l = omega (arith, l, more_cost machine d s (record { kind = kind; claims = direct_claims u }) made)
   all_late d bound s made (Breaks when kind n) l = omega (arith, l, needed_more machine d when (cost machine d made))
   all_late d bound s made Ends l = l

@@ -69,10 +69,10 @@ module _ (m : Meanings) (es : List Event) (sound : IsSoundDevice m) (d : Dispatc
   soft_in : (fuel : ℕ) (p : Progress) (w : Watched) (n : ℕ) → Stood m es 0 d bound b p w n → bound - n ≤ fuel → SoftTo n → SoftTo all
   soft_in zero p w n st l h =
       let r = round m es d (bound - n) p w in
-      soft_by zero n r.told r.progress r.watch st.within (λ k st l. absurd (omega arith)) l (round_means m es sound 0 d bound b p w n st) (longer n (steps_made (bound - n) r.told) h (soft_round m es sound 0 d bound b p w n st))
+      soft_by zero n r.told r.progress r.watch st.within (λ k st l. absurd (omega arith)) l (round_means m es sound 0 d bound b p w n st) (longer n (steps_made (bound - n) r.told) h (soft_round m es sound 0 d bound b (begun m es b) 0 p w n st))
   soft_in (suc fuel) p w n st l h =
       let r = round m es d (bound - n) p w in
-      soft_by (suc fuel) n r.told r.progress r.watch st.within (λ k st l. soft_in fuel r.progress r.watch k st (omega arith)) l (round_means m es sound 0 d bound b p w n st) (longer n (steps_made (bound - n) r.told) h (soft_round m es sound 0 d bound b p w n st))
+      soft_by (suc fuel) n r.told r.progress r.watch st.within (λ k st l. soft_in fuel r.progress r.watch k st (omega arith)) l (round_means m es sound 0 d bound b p w n st) (longer n (steps_made (bound - n) r.told) h (soft_round m es sound 0 d bound b (begun m es b) 0 p w n st))
 
   soft_all : Starts m es d b → SoftTo all
   soft_all s =

@@ -43,7 +43,7 @@ use Rattle.chain_core.proofs.LeaveRuns.{leave_told, leave_runs}
 use Rattle.chain_core.proofs.FusedRuns.{mid, five_told, two_told, five_runs, two_runs}
 use Rattle.chain_core.proofs.MoveRuns.{mid_in_run, five_in_run}
 use Rattle.chain_core.proofs.Turns.{Leaves, Fuses, TurnMeans, turn_means}
-use Rattle.chain_core.proofs.Standing.{Stood}
+use Rattle.chain_core.proofs.Standing.{StoodFrom}
 use Rattle.chain_core.proofs.RoundMeans.{judge_is, same_halt}
 use Rattle.chain_core.proofs.RoundsReturn.{nonzero, looping}
 use Rattle.chain_direct.specs.DirectRun.{is_vectored}
@@ -87,7 +87,7 @@ verdict_most m es left p w (Reviving at width) = body_most m es left p w (nat_le
 soft_choice : (s : Servicing) (t : Choice) → IsUntested s t → t.shv ≡ false
 soft_choice s t untested = (passed t.shv HardVectored _ untested).0
 
-module _ (m : Meanings) (es : List Event) (sound : IsSoundDevice m) (from : ℕ) (d : Dispatcher) (bound : ℕ) (b : State) (p : Progress) (w : Watched) (n : ℕ) (st : Stood m es from d bound b p w n) where
+module _ (m : Meanings) (es : List Event) (sound : IsSoundDevice m) (from : ℕ) (d : Dispatcher) (bound : ℕ) (b : State) (start : Servicing) (at : ℕ) (p : Progress) (w : Watched) (n : ℕ) (st : StoodFrom m es from d bound b start at p w n) where
   abbrev s : Servicing
   s = st.state
 
@@ -150,7 +150,7 @@ module _ (m : Meanings) (es : List Event) (sound : IsSoundDevice m) (from : ℕ)
         five (Refused kind) u j (omega (arith, l, most))
     by_turn (Fuse (Admitted frame)) u j l =
         let most = fused_most m es (bound - n) p w (nat_le 7 (bound - n)) frame refl in
-        seven (Admitted frame) u u.enters.1 (nonzero m es sound from d bound b p w n st runs (Admitted frame) u u.enters.1) j (omega (arith, l, most))
+        seven (Admitted frame) u u.enters.1 (nonzero m es sound from d bound b start at p w n st runs (Admitted frame) u u.enters.1) j (omega (arith, l, most))
     by_turn (Body v) (quiet, is_body, is) j l =
         let most = verdict_most m es (bound - n) p w v in
         let same : n ≡ n + j = omega (arith, l, most) in
@@ -159,7 +159,7 @@ module _ (m : Meanings) (es : List Event) (sound : IsSoundDevice m) (from : ℕ)
     running : (j : ℕ) → j < steps_of (judge_turn d p.board w) → Soft m es b (n + j)
     running =
         by_turn (judge_turn d p.board w)
-        (subst (TurnMeans m es d s x (move m es s)) (sym (judge_is m es sound from d bound b p w n st)) (turn_means m es d s x st.related runs))
+        (subst (TurnMeans m es d s x (move m es s)) (sym (judge_is m es sound from d bound b start at p w n st)) (turn_means m es d s x st.related runs))
 
   halted_none : (j : ℕ) (foreground : Bool) → j < steps_made (bound - n) (halted_round foreground) → ⊥
   halted_none j true l = omega (arith, l)
@@ -167,7 +167,7 @@ module _ (m : Meanings) (es : List Event) (sound : IsSoundDevice m) (from : ℕ)
 
   by_halt : (o : Option ℕ) → m.halted p.board.outside.device ≡ o → (j : ℕ) → j < steps_made (bound - n) (round_unless_halted m es d (bound - n) p w o).told → Soft m es b (n + j)
   by_halt (Some code) e j l = absurd (halted_none j (is_foreground w.live) l)
-  by_halt None e j l = running (sym (same_halt m es sound from d bound b p w n st) ∙ e) j l
+  by_halt None e j l = running (sym (same_halt m es sound from d bound b start at p w n st) ∙ e) j l
 
   -- no step of a round
   pub soft_round : (j : ℕ) → j < steps_made (bound - n) (round m es d (bound - n) p w).told → Soft m es b (n + j)

@@ -133,13 +133,13 @@ module _ (m : Meanings) (es : List Event) (b : State) where
   soft_text depth old new (Halted code) h = refl
   soft_text depth old new (VectorFault id) h = refl
 
-  soft_next : (trace : Bool) (k : ℕ) → Soft k → text_after m es trace b k ≡ next_text m trace (progress_at m es b k)
+  pub soft_next : (trace : Bool) (k : ℕ) → Soft k → text_after m es trace b k ≡ next_text m trace (progress_at m es b k)
   unfolding text_after next_text begins_after
   soft_next trace k h =
       let at = board_at m is_body es b k in
       ap (λ l. step_text trace (step m at).told ++ l) (soft_text (read_to m es b k).depth at (step m at).state (step m at).told h)
 
-  one_more : (trace : Bool) (p : Progress) → steps_text m es trace 1 p ≡ next_text m trace p
+  pub one_more : (trace : Bool) (p : Progress) → steps_text m es trace 1 p ≡ next_text m trace p
   unfolding steps_text
   one_more trace p = append-nil (next_text m trace p)
 

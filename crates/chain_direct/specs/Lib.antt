@@ -9,3 +9,9 @@ pub mod DirectCounts
 pub mod DirectBoth
 pub mod DirectExample
 pub mod DirectBeside
+pub mod DirectJudge
+pub mod DirectRelated
+pub mod DirectSteps
+pub mod DirectWatched
+pub mod DirectRounds
+pub mod DirectChain

@@ -9,12 +9,14 @@ ghost use Rattle.clic_select.specs.declared.choice.Choice.{Choice};
 ghost use Rattle.hart_report.specs.declared.stepped.Stepped.TheVariants.{Interrupted, Retired};
 ghost use Rattle.hart_board.specs.State.{State};
 ghost use Rattle.hart_board.specs.Step.{step};
+ghost use Rattle.hart_board.specs.Event.{AreEventsFrom};
 ghost use Rattle.hart_board.specs.declared.event.Event.{Event};
 ghost use Rattle.chain_core.specs.Servicing.{Servicing, marks};
 ghost use Rattle.chain_core.specs.Tests.{first_broken};
 ghost use Rattle.chain_core.specs.Enter.{takes_interrupts, is_enter_due, table_address};
 ghost use Rattle.chain_core.specs.Beside.{Rest, board_of};
 ghost use Rattle.chain_core.specs.Related.{Related};
+ghost use Rattle.chain_core.specs.Watched.{watched_of};
 ghost use Rattle.chain_core.specs.Slot.{base, slot_end};
 ghost use Rattle.chain_core.specs.Machine.{Before, Within, After, Makes, Breaks, Ends};
 ghost use Rattle.chain_core.specs.Run.{Made, On, run_to, after_moves, Leads, IsRun};
@@ -23,6 +25,7 @@ ghost use Rattle.chain_core.specs.Counts.{counts};
 ghost use Rattle.chain_core.specs.End.{end_at, EndsAs, services_within, IsListed};
 ghost use Rattle.chain_core.specs.Chain.{chain_end, chain_text};
 ghost use Rattle.chain_core.specs.Both.{with_slot_bytes, Starts};
+ghost use Rattle.chain_core.specs.declared.broken.Broken.{Broken};
 ghost use Rattle.chain_core.specs.declared.broken.Broken.TheVariants.{HardVectored, RegisterLost, BadTable, HaltInHandler, Exception};
 ghost use Rattle.chain_core.specs.declared.dispatcher.Dispatcher.{Dispatcher};
 ghost use Rattle.chain_core.specs.declared.dispatcher.Dispatcher.TheVariants.{Looping, Returning};
@@ -35,6 +38,9 @@ ghost use Rattle.chain_direct.specs.DirectKinds.{IsDirectMove};
 ghost use Rattle.chain_direct.specs.DirectCounts.{as_moves, begins_in};
 ghost use Rattle.chain_direct.specs.DirectText.{direct_end, direct_text};
 ghost use Rattle.chain_direct.specs.DirectBeside.{direct_board_of, rest_returned};
+ghost use Rattle.chain_direct.specs.DirectRelated.{DirectRelated};
+ghost use Rattle.chain_direct.specs.DirectJudge.{judge_direct_body};
+ghost use Rattle.chain_direct.specs.DirectSteps.{new_direct, BeginsSo, DirectBodyMeans};
 ghost use Rattle.chain_direct.specs.DirectBoth.{BothDirectAgree};
 ghost use Rattle.chain_core.specs.Example.{nothing, halted, events};
 ghost use Rattle.chain_direct.specs.DirectExample.{starting, hidden_table, dead_table, in_direct, direct_shown};
@@ -93,10 +99,23 @@ pub fn both_dispatchers_agree<D: Device>()
 {}
 
 /// Where an Enter of a hardware-vectored top would be due and the table's word may be used, the board
-/// beside the machine takes the input in one step, with its saved pc, cause and level.
+/// beside the machine takes the input in one step, with its saved pc, cause and level, and stands beside
+/// the machine in which its service is live. Where the word may not be used, the table is broken.
 pub fn a_direct_service_begins_in_one_step<D: Device>()
-    ensures { (d : Dispatcher) (s : Directed) (x : Rest) (t : Choice) → Related D.means d s.chained x → D.means.halted s.chained.outside.device ≡ None → top s.chained.outside.clic ≡ Some t → is_enter_due s.chained (Some t) ≡ true → t.shv ≡ true → first_broken (begin_tests s.chained.dead (table_address s.chained.table t.id)) ≡ None
-        → step D.means (board_of s.chained x) ≡ record { told = Interrupted s.chained.pc t.id; state = direct_board_of (vectored s t).chained (record { number = t.id; level = t.level; pc = s.chained.pc; kept = s.chained.registers }) x } }
+    ensures step { (d : Dispatcher) (s : Directed) (x : Rest) (t : Choice) → Related D.means d s.chained x → D.means.halted s.chained.outside.device ≡ None → top s.chained.outside.clic ≡ Some t → is_enter_due s.chained (Some t) ≡ true → t.shv ≡ true → first_broken (begin_tests s.chained.dead (table_address s.chained.table t.id)) ≡ None
+        → step D.means (board_of s.chained x) ≡ record { told = Interrupted s.chained.pc t.id; state = direct_board_of (vectored s t).chained (new_direct s t) x } }
+    ensures beside { (es : List Event) (d : Dispatcher) (s : Directed) (x : Rest) (t : Choice) → s.direct ≡ None → D.means.halted s.chained.outside.device ≡ None → top s.chained.outside.clic ≡ Some t → is_enter_due s.chained (Some t) ≡ true → t.shv ≡ true → Related D.means d s.chained x → first_broken (begin_tests s.chained.dead (table_address s.chained.table t.id)) ≡ None
+        → BeginsSo D.means es d s x t }
+    ensures breaks { (es : List Event) (s : Directed) (t : Choice) (kind : Broken) → s.direct ≡ None → D.means.halted s.chained.outside.device ≡ None → top s.chained.outside.clic ≡ Some t → is_enter_due s.chained (Some t) ≡ true → t.shv ≡ true → first_broken (begin_tests s.chained.dead (table_address s.chained.table t.id)) ≡ Some kind
+        → direct_move D.means es s ≡ Breaks Before BadTable s.chained.bodies }
+{}
+
+/// While a direct service is live, its tests on the board beside the machine, and a step that is tried,
+/// say what becomes of its next instruction: a test refuses it, or it raises and the board stays, or it
+/// is made, or it is MRET, which loses a register or takes the board back beside the chained services.
+pub fn a_direct_body_is_one_step<D: Device>()
+    ensures { (es : List Event) (d : Dispatcher) (s : Directed) (v : Direct) (x : Rest) (from : ℕ) → AreEventsFrom s.chained.outside.clic.shape.inputs from es → DirectRelated D.means d s.chained v x → D.means.halted s.chained.outside.device ≡ None
+        → DirectBodyMeans D.means es d s v x (judge_direct_body (direct_board_of s.chained v x) (watched_of s.chained)) }
 {}
 
 /// MRET takes the board back in one step to one beside the machine at the pc that the service

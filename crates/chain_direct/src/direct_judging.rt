@@ -1,0 +1,141 @@
+// The tests of a direct service: as it begins, of its instructions, and of its registers at its end.
+ghost use Rattle.std.specs.Prelude.{◌≡◌, ◌<◌, ◌==◌, ℕ};
+ghost use Rattle.hart_words.specs.Registers.{register};
+ghost use Rattle.hart_memory.specs.Fetch.{HasLength};
+ghost use Rattle.hart_exec.specs.Effect.{effect as effect_of};
+ghost use Rattle.hart_board.specs.State.{State};
+ghost use Rattle.chain_core.specs.Tests.{first_broken};
+ghost use Rattle.chain_core.specs.Enter.{table_address};
+ghost use Rattle.chain_core.specs.Judge.{HasBytes};
+ghost use Rattle.chain_direct.specs.DirectBody.{direct_instruction_tests, are_same};
+ghost use Rattle.chain_direct.specs.DirectJudge.{direct_or, judge_direct_made, judge_direct_fetched, judge_direct_body};
+ghost use Rattle.chain_direct.specs.DirectMoves.{begin_tests};
+ghost use Rattle.chain_direct.specs.DirectRounds.{hard_due};
+
+use crate::direct_verdict::DirectVerdict;
+use crate::direct_watch::DirectWatch;
+use chain_core::{Broken, Verdict, Watch, is_long, table_address};
+use clic_select::Choice;
+use clic_trap::due;
+use device_model::Device;
+use hart_board::{Board, decode};
+use hart_exec::{Effect, execute};
+use hart_memory::{Fetched, fetch, place_of};
+use hart_words::Regs;
+use rv_encoding::Ins;
+
+const FETCH_FAULT: u16 = 1;
+
+const ILLEGAL_INSTRUCTION: u16 = 2;
+
+/// The tests of a direct service that begins, by the address of its word in the table.
+#[tactic(auto, unfolding(chain_core::specs::Tests::first_broken))]
+pub fn test_word(watch: &Watch, at: u32) -> Option<Broken>
+    ensures { result ≡ first_broken (begin_tests watch.now.dead at) }
+{
+    if !place_of(at, 4).is_in_memory() {
+        return Some(Broken::BadTable);
+    }
+    if watch.hides(at, 4) {
+        return Some(Broken::BadTable);
+    }
+    None
+}
+
+/// The tests of a direct service of that input, which begins.
+pub fn test_begin<D: Device>(board: &Board<D>, watch: &DirectWatch, top: Choice) -> Option<Broken>
+    ensures { result ≡ first_broken (begin_tests watch.now.chained.dead (table_address board.now.csrs.mtvt top.id)) }
+{
+    test_word(&watch.chained, table_address(board.csrs().mtvt(), top.id))
+}
+
+// Whether a register is as it was.
+fn is_same(kept: &[u32; 32], registers: &Regs, r: u8) -> bool
+    requires { r < 32 }
+    ensures { result ≡ (register registers.now r == register kept.now r) }
+{
+    registers.get(r) == kept[usize::from(r)]
+}
+
+/// Whether each register is as it was.
+pub fn are_same(kept: &[u32; 32], registers: &Regs) -> bool
+    ensures { result ≡ are_same kept.now registers.now 32 }
+{
+    for r in 0..32u8 {
+        if !is_same(kept, registers, r) {
+            return false;
+        }
+    }
+    true
+}
+
+// The tests of an instruction that is spelled, and of what it asks for.
+#[tactic(auto, unfolding(chain_core::specs::Tests::first_broken))]
+fn judge_instruction(watch: &Watch, ins: &Ins, effect: Effect) -> DirectVerdict
+    requires { HasBytes effect }
+    ensures { (b : State) (length : ℕ) → effect ≡ effect_of ins.now length b.registers b.pc → result ≡ direct_or (first_broken (direct_instruction_tests ins.now)) (judge_direct_made b watch.now length ins.now) }
+{
+    match *ins {
+        Ins::Csr { .. } => DirectVerdict::Goes(Verdict::Refused(Broken::CsrTouched)),
+        Ins::Mret => DirectVerdict::Ends,
+        _ => DirectVerdict::Goes(watch.judge_effect(effect)),
+    }
+}
+
+// The tests of the instruction that was fetched.
+fn judge_fetched<D: Device>(board: &Board<D>, watch: &Watch, found: Fetched) -> DirectVerdict
+    requires { HasLength found }
+    ensures { result ≡ judge_direct_fetched board.now watch.now found }
+{
+    let (bits, length) = match found {
+        Fetched::Bits { bits, length } => (bits, length),
+        Fetched::Missing(_) => {
+            return DirectVerdict::Goes(Verdict::Refused(Broken::Exception(FETCH_FAULT)));
+        }
+    };
+    match decode(bits, length) {
+        Some(ins) => {
+            let effect = execute(&ins, length, board.regs(), board.pc());
+            judge_instruction(watch, &ins, effect)
+        }
+        None => DirectVerdict::Goes(Verdict::Refused(Broken::Exception(ILLEGAL_INSTRUCTION))),
+    }
+}
+
+/// The tests of a direct service's instruction that are made before its step.
+#[tactic(auto, unfolding(crate::specs::DirectJudge::judge_direct_body))]
+pub fn judge_direct_body<D: Device>(board: &Board<D>, watch: &Watch) -> DirectVerdict
+    ensures { result ≡ judge_direct_body board.now watch.now }
+{
+    let pc = board.pc();
+    if let Some(kind) = watch.first_test(pc) {
+        return DirectVerdict::Goes(Verdict::Refused(kind));
+    }
+    let found = fetch(board.banks(), pc);
+    match watch.second_test(is_long(found, pc), pc) {
+        Some(kind) => DirectVerdict::Goes(Verdict::Refused(kind)),
+        None => judge_fetched(board, watch, found),
+    }
+}
+
+/// The hardware-vectored input whose direct service is due, on a board that hasn't halted.
+#[tactic(auto, unfolding(crate::specs::DirectRounds::hard_due))]
+pub fn hard_due<D: Device>(board: &Board<D>) -> Option<Choice>
+    ensures { result ≡ hard_due D.means board.now }
+{
+    if board.halted().is_some() {
+        return None;
+    }
+    let top = board.select().top();
+    let enters = due(board.csrs(), top);
+    match top {
+        Some(choice) => {
+            if enters && choice.shv {
+                Some(choice)
+            } else {
+                None
+            }
+        }
+        None => None,
+    }
+}
