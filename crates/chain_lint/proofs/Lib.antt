@@ -30,3 +30,4 @@ pub mod Surveys
 pub mod Standing
 pub mod Depths
 pub mod Tabled
+pub mod PairWords

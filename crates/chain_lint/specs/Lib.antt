@@ -7,3 +7,5 @@ pub mod Bound
 pub mod Soundness
 pub mod Survey
 pub mod Tables
+pub mod Texts
+pub mod Pairs

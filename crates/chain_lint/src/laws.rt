@@ -1,8 +1,10 @@
 // What the checker's yes and the bound mean for runs of the servicing machine, for every device.
-ghost use Rattle.std.specs.Prelude.{◌≡◌, ℕ, List};
+ghost use Rattle.std.specs.Prelude.{◌≡◌, ◌↔◌, ℕ, List, Some};
 ghost use Rattle.chain_lint.specs.Walk.{verdict};
 ghost use Rattle.chain_lint.specs.Survey.{IsVerdict};
 ghost use Rattle.chain_lint.specs.Soundness.{YesIsSound, BoundIsSound, ListedIsSafe};
+ghost use Rattle.chain_lint.specs.Pairs.{SpellsPairs, pairs_of};
+ghost use Rattle.chain_lint.specs.declared.pair.Pair.{Pair};
 ghost use Rattle.chain_lint.specs.declared.region.Region.{Region};
 ghost use Rattle.chain_lint.specs.declared.verdict.Verdict.{Verdict};
 
@@ -33,4 +35,10 @@ pub fn what_is_listed_is_safe<D: Device>()
 pub fn a_verdict_is_so()
     ensures is { (code : List ℕ) (region : Region) (handler : ℕ) → IsVerdict code region handler (verdict code handler region) }
     ensures only { (code : List ℕ) (region : Region) (handler : ℕ) (answer : Verdict) → IsVerdict code region handler answer → verdict code handler region ≡ answer }
+{}
+
+/// Pairs are read of a word exactly where it spells them: each an input, a colon and a level, in decimal
+/// without leading zeros, with a comma between two.
+pub fn words_spell_pairs()
+    ensures { (word : List ℕ) (ps : List Pair) → (pairs_of word ≡ Some ps) ↔ SpellsPairs word ps }
 {}

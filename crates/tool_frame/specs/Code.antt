@@ -1,7 +1,7 @@
 -- The exit status of the program, and what each status tells of.
 use Rattle.std.specs.Prelude.{ℕ}
 use Rattle.tool_frame.specs.declared.status.Status.{Status}
-use Rattle.tool_frame.specs.declared.status.Status.TheVariants.{Done, BudgetSpent, Usage, Absent, ShelfFailed, Refused, SinkFailed, Memory, Broken, VectorFault}
+use Rattle.tool_frame.specs.declared.status.Status.TheVariants.{Done, BudgetSpent, Usage, Absent, ShelfFailed, Refused, SinkFailed, Memory, Broken, VectorFault, Rejected}
 
 abbrev pub code_of : Status → ℕ
 code_of Done = 0
@@ -14,6 +14,7 @@ code_of SinkFailed = 6
 code_of Memory = 7
 code_of Broken = 8
 code_of VectorFault = 9
+code_of Rejected = 11
 
 -- the work or the words; a file; or what may fail at any place
 pub data Origin : Type 0 where
@@ -33,3 +34,4 @@ origin_of SinkFailed = OfSink
 origin_of Memory = OfMemory
 origin_of Broken = OfCommand
 origin_of VectorFault = OfCommand
+origin_of Rejected = OfCommand

@@ -24,6 +24,8 @@ pub enum Status {
     Broken,
     /// The table's word for an input isn't in memory.
     VectorFault,
+    /// A handler is refused, or a table's word is.
+    Rejected,
 }
 
 impl Status {
@@ -44,6 +46,7 @@ impl Status {
             Status::Memory => 7,
             Status::Broken => 8,
             Status::VectorFault => 9,
+            Status::Rejected => 11,
         }
     }
 }

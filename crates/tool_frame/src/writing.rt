@@ -9,7 +9,9 @@ use board_outside::{Sink, SinkFault};
 pub fn put_usage<W: Sink>(out: &mut W) -> Result<(), SinkFault>
     ensures { Writes (is_ok result) (W.told out.old) (W.told out.new) usage_line }
 {
-    out.put(b"usage: clic_tool asm | disasm | run | chain | monitor | gen | mem | unmem\n")
+    out.put(
+        b"usage: clic_tool asm | disasm | run | chain | monitor | gen | mem | unmem | lint | bound\n",
+    )
 }
 
 // Writes one text, and then another.
