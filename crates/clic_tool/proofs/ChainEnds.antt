@@ -6,7 +6,7 @@ use Rattle.hart_memory.specs.Image.{SegmentView, ImageView}
 use Rattle.hart_board.specs.State.{State}
 use Rattle.hart_board.specs.Event.{EventList}
 use Rattle.chain_core.specs.Slot.{base, slot_end, is_covered, IsLeastTaken}
-use Rattle.chain_core.specs.Chain.{chain_end, board_after, chain_text, is_whole}
+use Rattle.chain_core.specs.Chain.{chain_end, is_whole}
 use Rattle.chain_core.specs.End.{EndsAs}
 use Rattle.chain_core.specs.Moves.{servicing_machine}
 use Rattle.chain_core.specs.Start.{begun}
@@ -15,6 +15,9 @@ use Rattle.chain_core.specs.declared.broken.Broken.{Broken as BrokenBy}
 use Rattle.chain_core.specs.declared.chain_end.ChainEnd.{ChainEnd}
 use Rattle.chain_core.specs.declared.chain_end.ChainEnd.TheVariants.{Done as done, BudgetSpent as budget_spent, SinkFailed as sink_failed, Broken as broken}
 use Rattle.chain_core.proofs.Ends.{ends_so}
+use Rattle.chain_core.specs.Machine.{Machine}
+use Rattle.chain_direct.specs.DirectMoves.{direct_machine, direct_start}
+use Rattle.chain_direct.specs.DirectText.{direct_end}
 use Rattle.device_model.specs.Meanings.{Meanings}
 use Rattle.hart_board.specs.declared.event.Event.{Event}
 use Rattle.board_outside.specs.Shelf.{ShelfView}
@@ -26,7 +29,7 @@ use Rattle.tool_frame.specs.declared.status.Status.{Status}
 use Rattle.tool_frame.specs.declared.status.Status.TheVariants.{Done, BudgetSpent, SinkFailed, Broken, VectorFault}
 use Rattle.clic_tool.specs.Shipped.{shipped_meanings}
 use Rattle.clic_tool.specs.Bench.{Bench, empty_bench}
-use Rattle.clic_tool.specs.Chain.{ChainWords, least_from, taken_at, unless_taken, slot_line, status_of, chain_board, chain_made, chain_told, chain_left, chain_due}
+use Rattle.clic_tool.specs.Chain.{ChainWords, least_from, taken_at, unless_taken, slot_line, status_of, chain_board, chain_made, chain_told, chain_left, chain_due, ends_by, text_by, board_by}
 use Rattle.clic_tool.proofs.RunEnds.{IsWorkStatus}
 
 -- ---- the slot
@@ -52,12 +55,20 @@ least_is image (Some at) h =
 
 -- ---- ends
 
--- no chain is due to end by its sink
-no_sink : (m : Meanings) (es : List Event) (d : Dispatcher) (bound : ℕ) (b : State) (end : ChainEnd) → end ≡ sink_failed → EndsAs (servicing_machine m es) d bound (begun m es b) end → ⊥
-no_sink m es d bound b end e h = subst (EndsAs (servicing_machine m es) d bound (begun m es b)) e h
+-- no run of a machine is due to end by its sink
+no_sink : {K S L : Type 0} (machine : Machine K S L) (d : Dispatcher) (bound : ℕ) (start : S) (end : ChainEnd) → end ≡ sink_failed → EndsAs machine d bound start end → ⊥
+no_sink machine d bound start end e h = subst (EndsAs machine d bound start) e h
 
 pub never_sink_failed : (m : Meanings) (es : List Event) (d : Dispatcher) (bound : ℕ) (b : State) → (chain_end m es d bound b).end ≡ sink_failed → ⊥
-never_sink_failed m es d bound b e = no_sink m es d bound b (chain_end m es d bound b).end e (ends_so (servicing_machine m es) d bound (begun m es b))
+never_sink_failed m es d bound b e = no_sink (servicing_machine m es) d bound (begun m es b) (chain_end m es d bound b).end e (ends_so (servicing_machine m es) d bound (begun m es b))
+
+never_direct : (m : Meanings) (es : List Event) (d : Dispatcher) (bound : ℕ) (b : State) → (direct_end m es d bound b).end ≡ sink_failed → ⊥
+never_direct m es d bound b e = no_sink (direct_machine m es) d bound (direct_start m es b) (direct_end m es d bound b).end e (ends_so (direct_machine m es) d bound (direct_start m es b))
+
+-- and so no chain of either kind
+pub never_by : (directs : Bool) (d : Dispatcher) (bound : ℕ) (events : EventList) (b : State) → (ends_by directs d bound events b).end ≡ sink_failed → ⊥
+never_by false d bound events b e = never_sink_failed shipped_meanings events.list d bound b e
+never_by true d bound events b e = never_direct shipped_meanings events.list d bound b e
 
 pub end_is_work : (end : ChainEnd) → (end ≡ sink_failed → ⊥) → IsWorkStatus (status_of end)
 end_is_work (done steps bodies services) never = record { own = refl; no_usage = λ c. cc }
@@ -99,14 +110,14 @@ ends_with sink_failed due text e same w = inr (e, w)
 -- what is known of a chain once it was made: its board before and after, its end, and its text
 pub record IsMade (chain : ChainWords) (image : ImageView) (events : EventList) (b b' : State) (end : ChainEnd) (o n : SinkView) : Type 0 where
   pub start : b ≡ chain_board chain.dispatcher_is image events
-  pub end_is : IsTrue (is_whole end) → (end ≡ (chain_end shipped_meanings events.list chain.dispatcher_is chain.bound_is b).end) × (b' ≡ board_after shipped_meanings events.list chain.dispatcher_is chain.bound_is b)
-  pub text : Writes (is_whole end) o n (chain_text shipped_meanings events.list chain.dispatcher_is chain.traces chain.bound_is b)
+  pub end_is : IsTrue (is_whole end) → (end ≡ (ends_by chain.directs chain.dispatcher_is chain.bound_is events b).end) × (b' ≡ board_by chain.directs chain.dispatcher_is chain.bound_is events b)
+  pub text : Writes (is_whole end) o n (text_by chain.directs chain.dispatcher_is chain.traces chain.bound_is events b)
 
 pub made_ends : (chain : ChainWords) (image : ImageView) (events : EventList) (b b' : State) (end : ChainEnd) {status : Status} {o n : SinkView} → IsMade chain image events b b' end o n → status ≡ status_of end → Ends status o n (chain_due chain image events)
 unfolding chain_told
 made_ends chain image events b b' end {status} {o} {n} made e =
-    subst (λ (x : State). Ends status o n (at_once (chain_text shipped_meanings events.list chain.dispatcher_is chain.traces chain.bound_is x) (status_of (chain_end shipped_meanings events.list chain.dispatcher_is chain.bound_is x).end))) made.start
-    (ends_with end (chain_end shipped_meanings events.list chain.dispatcher_is chain.bound_is b).end (chain_text shipped_meanings events.list chain.dispatcher_is chain.traces chain.bound_is b) e (λ w. (made.end_is w).0) made.text)
+    subst (λ (x : State). Ends status o n (at_once (text_by chain.directs chain.dispatcher_is chain.traces chain.bound_is events x) (status_of (ends_by chain.directs chain.dispatcher_is chain.bound_is events x).end))) made.start
+    (ends_with end (ends_by chain.directs chain.dispatcher_is chain.bound_is events b).end (text_by chain.directs chain.dispatcher_is chain.traces chain.bound_is events b) e (λ w. (made.end_is w).0) made.text)
 
 -- all was written, and its board is left
 pub made_leaves : (chain : ChainWords) (image : ImageView) (events : EventList) (b b' : State) (end : ChainEnd) {status : Status} {o n : SinkView} → IsMade chain image events b b' end o n → status ≡ status_of end → is_whole end ≡ true
@@ -115,9 +126,9 @@ unfolding chain_left
 made_leaves chain image events b b' end {status} made e whole =
     let there = made.end_is whole in
     let due : status ≡ status_of (chain_made chain image events) =
-    e ∙ (ap status_of there.0 ∙ ap (λ (x : State). status_of (chain_end shipped_meanings events.list chain.dispatcher_is chain.bound_is x).end) made.start) in
-    let board : b' ≡ board_after shipped_meanings events.list chain.dispatcher_is chain.bound_is (chain_board chain.dispatcher_is image events) =
-    there.1 ∙ ap (λ (x : State). board_after shipped_meanings events.list chain.dispatcher_is chain.bound_is x) made.start in
+    e ∙ (ap status_of there.0 ∙ ap (λ (x : State). status_of (ends_by chain.directs chain.dispatcher_is chain.bound_is events x).end) made.start) in
+    let board : b' ≡ board_by chain.directs chain.dispatcher_is chain.bound_is events (chain_board chain.dispatcher_is image events) =
+    there.1 ∙ ap (λ (x : State). board_by chain.directs chain.dispatcher_is chain.bound_is events x) made.start in
     record {
       where_due = λ same. ap (λ (x : State). record { first = Some x; second = None }) board;
       elsewhere = λ other. absurd (other due);
@@ -129,7 +140,7 @@ sink_is budget_spent e = cc
 sink_is (broken kind bodies) e = cc
 sink_is sink_failed e = refl
 
-due_no_sink : (end : ChainEnd) → (end ≡ sink_failed → ⊥) → SinkFailed ≡ status_of end → ⊥
+pub due_no_sink : (end : ChainEnd) → (end ≡ sink_failed → ⊥) → SinkFailed ≡ status_of end → ⊥
 due_no_sink (done steps bodies services) never e = cc
 due_no_sink budget_spent never e = cc
 due_no_sink (broken kind bodies) never e = cc
@@ -138,7 +149,7 @@ due_no_sink sink_failed never e = never refl
 -- the sink failed, and none is left
 pub sink_leaves : (chain : ChainWords) (image : ImageView) (events : EventList) (end : ChainEnd) {status : Status} → status ≡ status_of end → is_whole end ≡ false → Leaves empty_bench status (worked (chain_due chain image events) (chain_left chain image events)) empty_bench
 sink_leaves chain image events end e part =
-    let never = never_sink_failed shipped_meanings events.list chain.dispatcher_is chain.bound_is (chain_board chain.dispatcher_is image events) in
+    let never = never_by chain.directs chain.dispatcher_is chain.bound_is events (chain_board chain.dispatcher_is image events) in
     record {
       where_due = λ same. absurd (due_no_sink (chain_made chain image events) never (sym (e ∙ sink_is end part) ∙ same));
       elsewhere = λ other. refl;

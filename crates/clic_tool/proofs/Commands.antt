@@ -5,10 +5,13 @@ use Rattle.tool_frame.specs.Options.{IsPlainApp}
 use Rattle.clic_tool.specs.Run.{run_app}
 use Rattle.clic_tool.specs.Chain.{chain_app}
 use Rattle.clic_tool.specs.Monitor.{monitor_app}
+use Rattle.clic_tool.specs.Gen.{gen_app}
 use Rattle.clic_tool.specs.Assemble.{assemble_app}
 use Rattle.clic_tool.specs.Disassemble.{disassemble_app}
 use Rattle.clic_tool.specs.Mem.{mem_app}
 use Rattle.clic_tool.specs.Unmem.{unmem_app}
+use Rattle.clic_tool.specs.Lint.{lint_app}
+use Rattle.clic_tool.specs.Bound.{bound_app}
 
 pub run_plain : IsPlainApp run_app
 run_plain = record { simple = refl; simple_and_free = refl; alone = refl; defaults = refl; rules = refl }
@@ -18,6 +21,9 @@ chain_plain = record { simple = refl; simple_and_free = refl; alone = refl; defa
 
 pub monitor_plain : IsPlainApp monitor_app
 monitor_plain = record { simple = refl; simple_and_free = refl; alone = refl; defaults = refl; rules = refl }
+
+pub gen_plain : IsPlainApp gen_app
+gen_plain = record { simple = refl; simple_and_free = refl; alone = refl; defaults = refl; rules = refl }
 
 pub assemble_plain : IsPlainApp assemble_app
 assemble_plain = record { simple = refl; simple_and_free = refl; alone = refl; defaults = refl; rules = refl }
@@ -30,6 +36,12 @@ mem_plain = record { simple = refl; simple_and_free = refl; alone = refl; defaul
 
 pub unmem_plain : IsPlainApp unmem_app
 unmem_plain = record { simple = refl; simple_and_free = refl; alone = refl; defaults = refl; rules = refl }
+
+pub lint_plain : IsPlainApp lint_app
+lint_plain = record { simple = refl; simple_and_free = refl; alone = refl; defaults = refl; rules = refl }
+
+pub bound_plain : IsPlainApp bound_app
+bound_plain = record { simple = refl; simple_and_free = refl; alone = refl; defaults = refl; rules = refl }
 
 pub plain_by : (app known : App) → app ≡ known → IsPlainApp known → IsPlainApp app
 plain_by app known e plain = subst IsPlainApp (sym e) plain

@@ -3,6 +3,10 @@ mod TwoFiles
 mod ChainEnds
 mod ChainCauses
 mod MonitorCauses
+mod GenEnds
+mod GenCauses
+mod Pulses
+mod WordBytes
 mod OrderCauses
 mod Plans
 mod RunCauses
@@ -10,3 +14,5 @@ mod Labels
 mod Commands
 mod InShape
 mod MemoryTexts
+mod Verdicts
+mod LintCauses

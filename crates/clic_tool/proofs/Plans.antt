@@ -1,5 +1,5 @@
 -- What the frame asks of a plan holds of each command's.
-use Rattle.std.proofs.Common.{◌≡◌, ℕ, Option, Some, None, codes, refl, ap}
+use Rattle.std.proofs.Common.{◌≡◌, ℕ, Option, Some, None, codes, refl, ap, inl, inr}
 use Rattle.hart_memory.specs.Image.{ImageView}
 use Rattle.hart_board.specs.Event.{EventList}
 use Rattle.tool_frame.specs.Due.{Due}
@@ -18,14 +18,19 @@ use Rattle.clic_tool.specs.Files.{image_limit, image_read, script_limit, script_
 use Rattle.clic_tool.specs.Run.{RunWords, run_due, run_made, run_plan}
 use Rattle.clic_tool.specs.Chain.{ChainWords, taken_at, unless_taken, slot_plan, chain_due, chain_left, chain_made, chain_plan}
 use Rattle.clic_tool.specs.Monitor.{MonitorWords, monitor_due, script_plan, monitor_plan}
+use Rattle.clic_tool.specs.Gen.{GenWords, gen_plan}
 use Rattle.clic_tool.specs.Assemble.{AssembleWords, program_due, assemble_plan}
 use Rattle.clic_tool.specs.Disassemble.{DisassembleWords, listing_due, disassemble_plan}
 use Rattle.clic_tool.specs.Mem.{MemWords, mem_due, mem_plan}
 use Rattle.clic_tool.specs.Unmem.{UnmemWords, unmem_due, unmem_plan}
-use Rattle.clic_tool.specs.Order.{Order, Runs, Chains, Monitors, Assembles, Disassembles, Mems, Unmems, plan_of}
+use Rattle.clic_tool.specs.Lint.{LintWords, lint_made, lint_due, lint_plan}
+use Rattle.clic_tool.specs.Bound.{BoundWords, bound_made, bound_due, bound_plan}
+use Rattle.clic_tool.specs.Order.{Order, Runs, Chains, Monitors, Gens, Assembles, Disassembles, Mems, Unmems, Lints, Bounds, plan_of}
 use Rattle.clic_tool.proofs.RunEnds.{IsWorkStatus, end_is_work}
-use Rattle.clic_tool.proofs.ChainEnds.{end_is_work as chain_is_work, never_sink_failed as chain_no_sink}
+use Rattle.clic_tool.proofs.ChainEnds.{end_is_work as chain_is_work, never_by}
+use Rattle.clic_tool.proofs.GenEnds.{gen_is_work}
 use Rattle.clic_tool.proofs.TwoFiles.{files_fit}
+use Rattle.clic_tool.proofs.Verdicts.{IsAnswerStatus, verdict_answers, bound_answers}
 
 pub run_fits : (run : RunWords) → Fits (IsAtOnce IsWorkStatus) (run_plan run)
 run_fits run =
@@ -33,11 +38,14 @@ run_fits run =
     record { status = end_is_work (run_made image events run.bound_is).end (never_sink_failed shipped_meanings every_step events.list run.bound_is _); at_once = refl })
 
 taken_fits : (chain : ChainWords) (image : ImageView) (events : EventList) (taken : Option ℕ) → Fits (IsAtOnce IsWorkStatus) (unless_taken taken (Makes (chain_due chain image events) (chain_left chain image events)))
-taken_fits chain image events None = record { status = chain_is_work (chain_made chain image events) (chain_no_sink shipped_meanings events.list chain.dispatcher_is chain.bound_is _); at_once = refl }
+taken_fits chain image events None = record { status = chain_is_work (chain_made chain image events) (never_by chain.directs chain.dispatcher_is chain.bound_is events _); at_once = refl }
 taken_fits chain image events (Some at) = tt
 
 pub chain_fits : (chain : ChainWords) → Fits (IsAtOnce IsWorkStatus) (chain_plan chain)
 chain_fits chain = files_fit (IsAtOnce IsWorkStatus) chain.image_name chain.scenario_name (λ image events. slot_plan chain image events) (λ image events. taken_fits chain image events (taken_at image))
+
+pub gen_fits : (words : GenWords) → Fits (IsAtOnce IsWorkStatus) (gen_plan words)
+gen_fits words = record { status = gen_is_work words.number_is; at_once = refl }
 
 -- work that was made is done in all other commands
 pub assemble_fits : (words : AssembleWords) → Fits (IsAtOnce (λ s. s ≡ Done)) (assemble_plan words)
@@ -62,6 +70,15 @@ monitor_fits words =
     fits_reads (λ due. due.status ≡ Done) (codes "image") image_limit image_read words.image_name (script_plan words.script_name) (λ image.
     fits_reads (λ due. due.status ≡ Done) (codes "script") script_limit script_read words.script_name (λ commands. Makes (monitor_due image commands) empty_bench) (λ commands. refl))
 
+-- a verdict and a bound may be refusals
+pub lint_fits : (words : LintWords) → Fits (IsAtOnce IsAnswerStatus) (lint_plan words)
+lint_fits words =
+    fits_reads (IsAtOnce IsAnswerStatus) (codes "image") image_limit image_read words.image_name (λ image. Makes (lint_due words image) empty_bench) (λ image. record { status = verdict_answers (lint_made words image); at_once = refl })
+
+pub bound_fits : (words : BoundWords) → Fits (IsAtOnce IsAnswerStatus) (bound_plan words)
+bound_fits words =
+    fits_reads (IsAtOnce IsAnswerStatus) (codes "image") image_limit image_read words.image_name (λ image. Makes (bound_due words image) empty_bench) (λ image. record { status = bound_answers (bound_made words image); at_once = refl })
+
 -- ---- any words
 
 done_is_work : (s : Status) → s ≡ Done → IsWorkStatus s
@@ -70,15 +87,25 @@ done_is_work s e = record { own = rw e refl; no_usage = λ c. cc }
 done_works : (due : Due) → IsAtOnce (λ s. s ≡ Done) due → IsAtOnce IsWorkStatus due
 done_works due done = record { status = done_is_work due.status done.status; at_once = done.at_once }
 
+answer_is_work : (s : Status) → IsAnswerStatus s → IsWorkStatus s
+answer_is_work s (inl e) = done_is_work s e
+answer_is_work s (inr e) = record { own = rw e refl; no_usage = λ c. cc }
+
+answer_works : (due : Due) → IsAtOnce IsAnswerStatus due → IsAtOnce IsWorkStatus due
+answer_works due answer = record { status = answer_is_work due.status answer.status; at_once = answer.at_once }
+
 -- all but a script have their memory before they write
 pub order_fits : (order : Order) → ((words : MonitorWords) → order ≡ Monitors words → ⊥) → Fits (IsAtOnce IsWorkStatus) (plan_of (Some order))
 order_fits (Runs run) other = run_fits run
 order_fits (Chains chain) other = chain_fits chain
 order_fits (Monitors words) other = absurd (other words refl)
+order_fits (Gens words) other = gen_fits words
 order_fits (Assembles words) other = fits_more (IsAtOnce (λ s. s ≡ Done)) (IsAtOnce IsWorkStatus) done_works (assemble_plan words) (assemble_fits words)
 order_fits (Disassembles words) other = fits_more (IsAtOnce (λ s. s ≡ Done)) (IsAtOnce IsWorkStatus) done_works (disassemble_plan words) (disassemble_fits words)
 order_fits (Mems words) other = fits_more (IsAtOnce (λ s. s ≡ Done)) (IsAtOnce IsWorkStatus) done_works (mem_plan words) (mem_fits words)
 order_fits (Unmems words) other = fits_more (IsAtOnce (λ s. s ≡ Done)) (IsAtOnce IsWorkStatus) done_works (unmem_plan words) (unmem_fits words)
+order_fits (Lints words) other = fits_more (IsAtOnce IsAnswerStatus) (IsAtOnce IsWorkStatus) answer_works (lint_plan words) (lint_fits words)
+order_fits (Bounds words) other = fits_more (IsAtOnce IsAnswerStatus) (IsAtOnce IsWorkStatus) answer_works (bound_plan words) (bound_fits words)
 
 abbrev pub IsWork : Due → Type 0
 IsWork due = IsWorkStatus due.status
@@ -90,10 +117,13 @@ pub order_works : (order : Order) → Fits IsWork (plan_of (Some order))
 order_works (Runs run) = at_once_works (Runs run) (run_fits run)
 order_works (Chains chain) = at_once_works (Chains chain) (chain_fits chain)
 order_works (Monitors words) = fits_more (λ due. due.status ≡ Done) IsWork (λ due done. done_is_work due.status done) (monitor_plan words) (monitor_fits words)
+order_works (Gens words) = at_once_works (Gens words) (gen_fits words)
 order_works (Assembles words) = at_once_works (Assembles words) (order_fits (Assembles words) (λ w c. cc))
 order_works (Disassembles words) = at_once_works (Disassembles words) (order_fits (Disassembles words) (λ w c. cc))
 order_works (Mems words) = at_once_works (Mems words) (order_fits (Mems words) (λ w c. cc))
 order_works (Unmems words) = at_once_works (Unmems words) (order_fits (Unmems words) (λ w c. cc))
+order_works (Lints words) = at_once_works (Lints words) (order_fits (Lints words) (λ w c. cc))
+order_works (Bounds words) = at_once_works (Bounds words) (order_fits (Bounds words) (λ w c. cc))
 
 pub plan_fits : (order : Option Order) → ((words : MonitorWords) → order ≡ Some (Monitors words) → ⊥) → Fits (IsAtOnce (λ s. origin_of s ≡ OfCommand)) (plan_of order)
 plan_fits None other = record { status = refl; at_once = refl }
@@ -109,7 +139,10 @@ plan_begins None = tt
 plan_begins (Some (Runs run)) = tt
 plan_begins (Some (Chains chain)) = tt
 plan_begins (Some (Monitors words)) = tt
+plan_begins (Some (Gens words)) = tt
 plan_begins (Some (Assembles words)) = tt
 plan_begins (Some (Disassembles words)) = tt
 plan_begins (Some (Mems words)) = tt
 plan_begins (Some (Unmems words)) = tt
+plan_begins (Some (Lints words)) = tt
+plan_begins (Some (Bounds words)) = tt

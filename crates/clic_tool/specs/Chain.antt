@@ -1,5 +1,5 @@
 -- The command `chain`: its words, and what it does with its files.
-use Rattle.std.specs.Prelude.{◌≡◌, ℕ, zero, suc, ◌+◌, ◌-◌, List, [], ◌++◌, Bool, Option, Some, None, codes, unwrap_or, option_map, if◌then◌else◌}
+use Rattle.std.specs.Prelude.{◌≡◌, ℕ, zero, suc, ◌+◌, ◌-◌, List, [], ◌++◌, Bool, true, false, Option, Some, None, codes, unwrap_or, option_map, if◌then◌else◌}
 use Rattle.std.specs.Str.{bytes_eq}
 use Rattle.clap.specs.Words.{App, Row, Text, first_of, one_of, new_app, with_rule}
 use Rattle.hart_words.specs.Hexadecimal.{hex8}
@@ -13,10 +13,14 @@ use Rattle.chain_core.specs.Moves.{servicing_machine}
 use Rattle.chain_core.specs.ChainRun.{read_to}
 use Rattle.chain_core.specs.End.{services_within}
 use Rattle.chain_core.specs.Chain.{chain_end, board_after, chain_text, machine_run, AgreesWhereDone}
+use Rattle.chain_core.specs.declared.ended.Ended.{Ended}
 use Rattle.chain_core.specs.declared.dispatcher.Dispatcher.{Dispatcher}
 use Rattle.chain_core.specs.declared.dispatcher.Dispatcher.TheVariants.{Looping, Returning}
 use Rattle.chain_core.specs.declared.chain_end.ChainEnd.{ChainEnd}
 use Rattle.chain_core.specs.declared.chain_end.ChainEnd.TheVariants.{Done as done, BudgetSpent as budget_spent, SinkFailed as sink_failed, Broken as broken}
+use Rattle.chain_direct.specs.DirectMoves.{direct_machine, direct_start}
+use Rattle.chain_direct.specs.DirectText.{direct_end, direct_run, direct_board, direct_text}
+use Rattle.chain_direct.specs.DirectChain.{begun_to, AgreesWhereOver}
 use Rattle.tool_frame.specs.Options.{text_rule, number_rule, flag_rule, number_in, is_flag_on}
 use Rattle.tool_frame.specs.Due.{Due, at_once}
 use Rattle.tool_frame.specs.Plan.{Plan, Makes, Refuses}
@@ -27,17 +31,18 @@ use Rattle.clic_tool.specs.Bench.{Bench}
 use Rattle.clic_tool.specs.Files.{files_plan}
 use Rattle.clic_tool.specs.declared.chain_order.ChainOrder.{ChainOrder}
 
--- two files, a dispatcher's name, a number from 0 to 1,000,000,000, and a flag
+-- two files, a dispatcher's name, a number from 0 to 1,000,000,000, and two flags
 abbrev pub chain_app : App
-chain_app = with_rule (with_rule (with_rule (with_rule (with_rule (new_app (codes "chain")) (text_rule (codes "IMAGE"))) (text_rule (codes "SCENARIO"))) (text_rule (codes "DISPATCHER"))) (number_rule (codes "BOUND") 0 1_000_000_000)) (flag_rule (codes "trace"))
+chain_app = with_rule (with_rule (with_rule (with_rule (with_rule (with_rule (new_app (codes "chain")) (text_rule (codes "IMAGE"))) (text_rule (codes "SCENARIO"))) (text_rule (codes "DISPATCHER"))) (number_rule (codes "BOUND") 0 1_000_000_000)) (flag_rule (codes "trace"))) (flag_rule (codes "direct"))
 
--- the files, the dispatcher, the bound, and whether a trace is wanted
+-- the files, the dispatcher, the bound, whether a trace is wanted, and whether hardware-vectored inputs are served directly
 pub record ChainWords : Type 0 where
   pub image_name : Text
   pub scenario_name : Text
   pub dispatcher_is : Dispatcher
   pub bound_is : ℕ
   pub traces : Bool
+  pub directs : Bool
 
 -- the dispatcher of that name
 abbrev pub dispatcher_of : Text → Option Dispatcher
@@ -51,11 +56,12 @@ chain_in rows = option_map (λ d. record {
   dispatcher_is = d;
   bound_is = unwrap_or (number_in (one_of (codes "BOUND") rows)) 0;
   traces = is_flag_on (one_of (codes "trace") rows);
+  directs = is_flag_on (one_of (codes "direct") rows);
 }) (dispatcher_of (unwrap_or (first_of (codes "DISPATCHER") rows) []))
 
 -- the same, without where the names lie
 abbrev pub view_chain : ChainOrder → ChainWords
-view_chain c = record { image_name = c.image.now; scenario_name = c.scenario.now; dispatcher_is = c.dispatcher; bound_is = c.bound; traces = c.trace }
+view_chain c = record { image_name = c.image.now; scenario_name = c.scenario.now; dispatcher_is = c.dispatcher; bound_is = c.bound; traces = c.trace; directs = c.direct }
 
 -- ---- the slot
 
@@ -89,30 +95,47 @@ status_of sink_failed = SinkFailed
 abbrev pub chain_board : Dispatcher → ImageView → EventList → State
 chain_board d image events = installed d (loaded image (shipped_board events.shape))
 
--- how it ends
+-- with direct services or without: how a chain from that board ends, and after how many steps
+abbrev pub ends_by : Bool → Dispatcher → ℕ → EventList → State → Ended
+ends_by false d bound events b = chain_end shipped_meanings events.list d bound b
+ends_by true d bound events b = direct_end shipped_meanings events.list d bound b
+
+-- what is told of it
+abbrev pub text_by : Bool → Dispatcher → Bool → ℕ → EventList → State → List ℕ
+text_by false d traces bound events b = chain_text shipped_meanings events.list d traces bound b
+text_by true d traces bound events b = direct_text shipped_meanings events.list d traces bound b
+
+-- the board where it ends
+abbrev pub board_by : Bool → Dispatcher → ℕ → EventList → State → State
+board_by false d bound events b = board_after shipped_meanings events.list d bound b
+board_by true d bound events b = direct_board shipped_meanings events.list d bound b
+
+-- how the chain of the words ends
 abbrev pub chain_made : ChainWords → ImageView → EventList → ChainEnd
-chain_made chain image events = (chain_end shipped_meanings events.list chain.dispatcher_is chain.bound_is (chain_board chain.dispatcher_is image events)).end
+chain_made chain image events = (ends_by chain.directs chain.dispatcher_is chain.bound_is events (chain_board chain.dispatcher_is image events)).end
 
 -- what is told of it
 unfoldable pub chain_told : ChainWords → ImageView → EventList → List ℕ
-chain_told chain image events = chain_text shipped_meanings events.list chain.dispatcher_is chain.traces chain.bound_is (chain_board chain.dispatcher_is image events)
+chain_told chain image events = text_by chain.directs chain.dispatcher_is chain.traces chain.bound_is events (chain_board chain.dispatcher_is image events)
 
 -- the board where it ends
 unfoldable pub chain_left : ChainWords → ImageView → EventList → Bench
-chain_left chain image events = record { first = Some (board_after shipped_meanings events.list chain.dispatcher_is chain.bound_is (chain_board chain.dispatcher_is image events)); second = None }
+chain_left chain image events = record { first = Some (board_by chain.directs chain.dispatcher_is chain.bound_is events (chain_board chain.dispatcher_is image events)); second = None }
 
 -- the services that are read off the board's run are those of the servicing machine within the bound
-abbrev pub HasItsServices : Dispatcher → ℕ → EventList → State → Type 0
-HasItsServices d bound events b = (read_to shipped_meanings events.list b (chain_end shipped_meanings events.list d bound b).steps).services ≡ services_within (servicing_machine shipped_meanings events.list) d bound (begun shipped_meanings events.list b)
+abbrev pub HasItsServices : Bool → Dispatcher → ℕ → EventList → State → Type 0
+HasItsServices false d bound events b = (read_to shipped_meanings events.list b (chain_end shipped_meanings events.list d bound b).steps).services ≡ services_within (servicing_machine shipped_meanings events.list) d bound (begun shipped_meanings events.list b)
+HasItsServices true d bound events b = begun_to shipped_meanings events.list b (direct_end shipped_meanings events.list d bound b).steps ≡ services_within (direct_machine shipped_meanings events.list) d bound (direct_start shipped_meanings events.list b)
 
 -- and where the chain is done, the board agrees with the machine's last state
-abbrev pub HasItsState : Dispatcher → ℕ → EventList → State → Type 0
-HasItsState d bound events b = AgreesWhereDone (chain_end shipped_meanings events.list d bound b).end (board_after shipped_meanings events.list d bound b) (machine_run shipped_meanings events.list bound b)
+abbrev pub HasItsState : Bool → Dispatcher → ℕ → EventList → State → Type 0
+HasItsState false d bound events b = AgreesWhereDone (chain_end shipped_meanings events.list d bound b).end (board_after shipped_meanings events.list d bound b) (machine_run shipped_meanings events.list bound b)
+HasItsState true d bound events b = AgreesWhereOver (direct_end shipped_meanings events.list d bound b).end (direct_board shipped_meanings events.list d bound b) (direct_run shipped_meanings events.list bound b)
 
--- the board of a chain does what the servicing machine does
+-- the board of a chain does what the servicing machine does, or the one with direct services
 pub record IsServed (chain : ChainWords) (image : ImageView) (events : EventList) : Type 0 where
-  pub services : HasItsServices chain.dispatcher_is chain.bound_is events (chain_board chain.dispatcher_is image events)
-  pub state : HasItsState chain.dispatcher_is chain.bound_is events (chain_board chain.dispatcher_is image events)
+  pub services : HasItsServices chain.directs chain.dispatcher_is chain.bound_is events (chain_board chain.dispatcher_is image events)
+  pub state : HasItsState chain.directs chain.dispatcher_is chain.bound_is events (chain_board chain.dispatcher_is image events)
 
 -- what is due of it
 abbrev pub chain_due : ChainWords → ImageView → EventList → Due

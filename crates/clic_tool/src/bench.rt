@@ -5,7 +5,7 @@ ghost use Rattle.clic_tool.specs.Bench.{empty_bench};
 use board_devices::AllDevices;
 use hart_board::Board;
 
-/// The boards that `chain` ran, where they ended, so that a caller can look at them.
+/// The boards that `chain` or `gen` ran, where they ended, so that a caller can look at them.
 #[derive(Drop)]
 pub struct Bench {
     pub first: Option<Board<AllDevices>>,

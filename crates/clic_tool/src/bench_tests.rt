@@ -1,4 +1,4 @@
-// Chains that are called: the board of a bench, and puts that fail.
+// Chains that are called: the boards of a bench.
 use crate::bench::Bench;
 use crate::command::clic_main;
 use crate::tests::words_of;
@@ -11,7 +11,7 @@ use std::test::Fail;
 use tool_frame::Status;
 
 // tests/rows/interrupt.img
-const FIVE_INPUTS: [u8; 176] = [
+pub const FIVE_INPUTS: [u8; 176] = [
     0x43, 0x4C, 0x43, 0x31, 0, 2, 0, 0, 2, 0, 0, 0, 0x0C, 1, 0, 0, 0x24, 0, 0, 0, 0x6C, 2, 0, 0, 0,
     0, 0, 0, 0x6C, 2, 0, 0, 0, 0, 0, 0, 0x6C, 2, 0, 0, 0, 0, 0, 0, 0x6C, 2, 0, 0, 0, 0, 0, 0, 0x6C,
     2, 0, 0, 0, 2, 0, 0, 0x70, 0, 0, 0, 0x37, 1, 1, 0x20, 0x93, 2, 0, 4, 0x73, 0x90, 0x52, 0x30,
@@ -82,27 +82,43 @@ fn the_board_of_a_chain(rt: HostRuntime) -> Result<(), Fail> {
     leaves(&rt, rt.alloc(), "returning", 0xB800_0003, &mut bench)
 }
 
-// A put for each of the two services and of the report's first 36 lines, one for the bytes that were sent, and one for
-// each row of dead bytes.
-#[test]
-fn each_put_of_a_chain_fails_in_turn(rt: HostRuntime) -> Result<(), Fail> {
-    let mut bench = Bench::new();
-    let (status, whole) = chained(rt.alloc(), "looping", 1000, &mut bench)?;
-    assert_eq!(rt; status, Status::Done);
-    assert!(rt;
-        whole
-            .bytes()
-            .starts_with(b"s 5 127 1\ns 3 127 1\nend halt 00000000\nsteps 66\n")
-    );
-    let mut failures: u32 = 0;
-    for put in 1..100 {
-        let (status, out) = chained(rt.alloc(), "looping", put, &mut bench)?;
-        assert!(rt; whole.bytes().starts_with(out.bytes()));
-        if out.bytes().len() < whole.bytes().len() {
-            assert_eq!(rt; status, Status::SinkFailed);
-            failures = failures.saturating_add(1);
-        }
+// What `gen 0` writes, with the put of this number failing.
+fn generated(alloc: Global, put: u64, bench: &mut Bench) -> Result<(Status, MemorySink), Fail> {
+    let words = words_of(alloc, &["gen", "0"])?;
+    let mut shelf = MemoryShelf::new(alloc);
+    let mut out = MemorySink::new(alloc, 4096)?;
+    out.fail_at(put)?;
+    let status = clic_main(alloc, &words, &mut shelf, bench, &mut out);
+    Ok((status, out))
+}
+
+fn has_halted<D: Device>(rt: &impl Abort, board: &Option<Board<D>>) {
+    match board {
+        Some(board) => assert_eq!(rt; board.halted(), Some(0)),
+        None => panic!(rt; "no board"),
     }
-    assert_eq!(rt; failures, 41);
+}
+
+fn both_have_halted(rt: &impl Abort, bench: &Bench) {
+    has_halted(rt, &bench.first);
+    has_halted(rt, &bench.second);
+}
+
+// Both boards are left, and go with the line that fails.
+fn leaves_both(rt: &impl Abort, alloc: Global, bench: &mut Bench) -> Result<(), Fail> {
+    let (status, out) = generated(alloc, 1000, bench)?;
+    assert_eq!(rt; status, Status::Done);
+    let line = b"gen 0 services 0 looping 226 returning 226\n";
+    assert!(rt; out.bytes() == line.as_slice());
+    both_have_halted(rt, bench);
+    let (failed, _) = generated(alloc, 1, bench)?;
+    assert_eq!(rt; failed, Status::SinkFailed);
+    assert!(rt; is_empty(bench));
     Ok(())
+}
+
+#[test]
+fn the_boards_of_gen(rt: HostRuntime) -> Result<(), Fail> {
+    let mut bench = Bench::new();
+    leaves_both(&rt, rt.alloc(), &mut bench)
 }

@@ -15,7 +15,7 @@ use tool_frame::{
     text_given,
 };
 
-// The command `chain`: an image's name, a scenario's name, a dispatcher's name, a bound in steps, and a flag.
+// The command `chain`: an image's name, a scenario's name, a dispatcher's name, a bound in steps, and two flags.
 fn chain_command<'a>(alloc: Global) -> Result<Command<'a>, AllocError>
     ensures { IfOk result (λ command. app_of command ≡ chain_app) }
 {
@@ -24,7 +24,8 @@ fn chain_command<'a>(alloc: Global) -> Result<Command<'a>, AllocError>
     let with_dispatcher = with_scenario.arg(text_argument(alloc, "DISPATCHER"))?;
     let with_bound = with_dispatcher.arg(number_argument(alloc, "BOUND", 0, 1_000_000_000))?;
     let with_trace = with_bound.arg(flag_argument(alloc, "trace"))?;
-    Ok(with_trace)
+    let with_direct = with_trace.arg(flag_argument(alloc, "direct"))?;
+    Ok(with_direct)
 }
 
 fn dispatcher_named(name: &str) -> Option<Dispatcher>
@@ -51,6 +52,7 @@ fn chain_order<'a>(matches: &ArgMatches<'a>) -> Option<ChainOrder<'a>>
             dispatcher,
             bound: number_given(matches, "BOUND"),
             trace: is_given(matches, "trace"),
+            direct: is_given(matches, "direct"),
         }),
         None => None,
     }

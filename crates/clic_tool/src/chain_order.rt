@@ -13,4 +13,6 @@ pub struct ChainOrder<'a> {
     pub bound: u64,
     /// Whether each step is told.
     pub trace: bool,
+    /// Whether hardware-vectored inputs are served directly.
+    pub direct: bool,
 }

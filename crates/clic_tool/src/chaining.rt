@@ -1,32 +1,31 @@
 // A chain on the shipped board.
-ghost use Rattle.std.specs.Prelude.{◌≡◌, IfOk, IsTrue, Some, None, if◌then◌else◌};
-ghost use Rattle.board_outside.specs.Sink.{Writes};
+ghost use Rattle.std.specs.Prelude.{◌≡◌, IfOk, Some, None, if◌then◌else◌};
 ghost use Rattle.chain_core.specs.Words.{HasDispatcher};
-ghost use Rattle.chain_core.specs.Watched.{nothing_watched};
-ghost use Rattle.chain_core.specs.Chain.{chain_end, board_after, chain_text, is_whole};
-ghost use Rattle.clic_tool.specs.Shipped.{shipped_meanings};
+ghost use Rattle.chain_core.specs.Chain.{is_whole};
 ghost use Rattle.clic_tool.specs.Bench.{Bench, empty_bench};
 ghost use Rattle.clic_tool.specs.ChainCauses.{IsServedTo};
-ghost use Rattle.clic_tool.specs.Chain.{HasItsServices, HasItsState, IsServed, slot_line, status_of, chain_board, chain_due, chain_left, chain_plan, view_chain};
+ghost use Rattle.clic_tool.specs.Chain.{IsServed, slot_line, status_of, chain_board, chain_due, chain_left, chain_plan, view_chain};
 ghost use Rattle.tool_frame.specs.Code.{OfCommand, origin_of};
 ghost use Rattle.tool_frame.specs.Due.{worked};
 ghost use Rattle.tool_frame.specs.Answers.{EndsOrWants, Leaves, FollowsWith, status_in};
 
 use crate::bench::Bench;
 use crate::chain_order::ChainOrder;
+use crate::chain_running::run_chain;
 use crate::image_file::ImageFile;
 use crate::running::new_board;
 use crate::scenario_file::ScenarioFile;
 use board_devices::AllDevices;
 use board_inputs::load_image;
 use board_outside::{Shelf, Sink};
-use chain_core::{ChainEnd, Dispatcher, Watch, chain, install, slot_taken};
+use chain_core::{ChainEnd, Dispatcher, install, slot_taken};
 use hart_board::{Board, Events};
 use hart_memory::Image;
 use hart_words::{Line, WantOfMemory};
 use std::alloc::Global;
 use tool_frame::{Status, end_refused, read_file};
 
+/// The status of a chain that ended so.
 pub fn status_of_end(end: &ChainEnd) -> Status
     ensures { result ≡ status_of end.now }
 {
@@ -60,8 +59,8 @@ fn line_of_slot(at: u32) -> Line
     line
 }
 
-// The board from which a chain starts.
-fn board_with(
+/// The board from which a chain starts.
+pub fn board_with(
     alloc: Global,
     dispatcher: Dispatcher,
     image: &Image,
@@ -76,29 +75,6 @@ fn board_with(
     board.in_range();
     install(&mut board, dispatcher);
     Ok(board)
-}
-
-// Runs the shipped board under its dispatcher.
-#[tactic(auto, unfolding(crate::specs::Shipped::shipped_meanings))]
-fn chain_shipped<W: Sink>(
-    board: &mut Board<AllDevices>,
-    watch: &mut Watch,
-    dispatcher: Dispatcher,
-    events: &Events,
-    bound: u64,
-    trace: bool,
-    out: &mut W,
-) -> ChainEnd
-    requires has { HasDispatcher dispatcher board.old.memory.rom }
-    requires level { board.old.csrs.mil ≡ 0 }
-    requires new { watch.old ≡ nothing_watched }
-    requires shape { events.now.shape ≡ board.old.outside.clic.shape }
-    ensures end { IsTrue (is_whole result) → (result ≡ (chain_end shipped_meanings events.now.list dispatcher bound board.old).end) × (board.new ≡ board_after shipped_meanings events.now.list dispatcher bound board.old) }
-    ensures text { Writes (is_whole result) (W.told out.old) (W.told out.new) (chain_text shipped_meanings events.now.list dispatcher trace bound board.old) }
-    ensures services { HasItsServices dispatcher bound events.now board.old }
-    ensures state { HasItsState dispatcher bound events.now board.old }
-{
-    chain(board, watch, dispatcher, events, bound, trace, out)
 }
 
 // Where all was written, the board goes to the bench.
@@ -126,25 +102,17 @@ fn chain_image<W: Sink>(
     ensures leaves { Leaves empty_bench result (worked (chain_due (view_chain order.now) image.now events.now) (chain_left (view_chain order.now) image.now events.now)) bench.new }
     ensures served { origin_of result ≡ OfCommand → IsServed (view_chain order.now) image.now events.now }
 {
-    let mut watch = match Watch::new(alloc) {
-        Ok(watch) => watch,
-        Err(_) => return Status::Memory,
-    };
     let mut board = match board_with(alloc, order.dispatcher, image, events) {
         Ok(board) => board,
         Err(_) => return Status::Memory,
     };
-    let end = chain_shipped(
-        &mut board,
-        &mut watch,
-        order.dispatcher,
-        events,
-        order.bound,
-        order.trace,
-        out,
-    );
-    leave(&end, board, bench);
-    status_of_end(&end)
+    match run_chain(alloc, order, &mut board, events, out) {
+        Ok(end) => {
+            leave(&end, board, bench);
+            status_of_end(&end)
+        }
+        Err(_) => Status::Memory,
+    }
 }
 
 /// Reads the image and then the scenario, and runs the chain where the image leaves the slot free.

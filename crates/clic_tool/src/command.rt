@@ -12,15 +12,23 @@ ghost use Rattle.clic_tool.specs.Bench.{empty_bench};
 ghost use Rattle.clic_tool.specs.Run.{RunWords};
 ghost use Rattle.clic_tool.specs.Chain.{ChainWords};
 ghost use Rattle.clic_tool.specs.Monitor.{MonitorWords};
-ghost use Rattle.clic_tool.specs.Order.{Runs, Chains, Monitors, order_of, view, plan_of};
+ghost use Rattle.clic_tool.specs.Gen.{GenWords};
+ghost use Rattle.clic_tool.specs.Lint.{LintWords};
+ghost use Rattle.clic_tool.specs.Bound.{BoundWords};
+ghost use Rattle.clic_tool.specs.Order.{Runs, Chains, Monitors, Gens, Lints, Bounds, order_of, view, plan_of};
 ghost use Rattle.clic_tool.specs.RunCauses.{RanTo};
 ghost use Rattle.clic_tool.specs.ChainCauses.{ChainedTo, IsServedTo};
+ghost use Rattle.clic_tool.specs.GenCauses.{GeneratedTo, AreDone};
 ghost use Rattle.clic_tool.specs.MonitorCauses.{WantsInScript};
+ghost use Rattle.clic_tool.specs.LintCauses.{LintedTo, BoundTo, IsYes, IsNo, IsBounded, IsRefused};
 
 use crate::assembling::assemble_file;
 use crate::bench::Bench;
+use crate::bounding::bound_file;
 use crate::chaining::chain_files;
 use crate::disassembling::disassemble_file;
+use crate::generating::generate;
+use crate::linting::lint_file;
 use crate::mem_reading::unmem_file;
 use crate::mem_writing::mem_file;
 use crate::monitoring::monitor_files;
@@ -47,12 +55,15 @@ fn follow<F: Shelf, W: Sink>(
         Order::Run(run) => status_in(run_files(alloc, run, shelf, out)),
         Order::Chain(chain) => status_in(chain_files(alloc, chain, shelf, bench, out)),
         Order::Monitor(script) => status_in(monitor_files(alloc, script, shelf, out)),
+        Order::Gen(numbered) => generate(alloc, numbered, bench, out),
         Order::Assemble(assembly) => status_in(assemble_file(alloc, assembly, shelf, out)),
         Order::Disassemble(disassembly) => {
             status_in(disassemble_file(alloc, disassembly, shelf, out))
         }
         Order::Mem(mem) => status_in(mem_file(alloc, mem, shelf, out)),
         Order::Unmem(unmem) => status_in(unmem_file(alloc, unmem, shelf, out)),
+        Order::Lint(lint) => status_in(lint_file(alloc, lint, shelf, out)),
+        Order::Bound(bound) => status_in(bound_file(alloc, bound, shelf, out)),
     }
 }
 
@@ -112,10 +123,16 @@ pub fn clic_main<F: Shelf, W: Sink>(
     ensures status_done { result ≡ Status.Done → NoneRose (F.told shelf.old) (F.told shelf.new) (W.told out.old) (W.told out.new) }
     ensures status_done_halted { (run : RunWords) → order_of words.now ≡ Some (Runs run) → result ≡ Status.Done → RanTo (λ end. (code : ℕ) × (steps : ℕ) × (end ≡ Halted code steps)) (order_of words.now) (F.told shelf.old) (F.told shelf.new) }
     ensures status_done_chained { (chain : ChainWords) → order_of words.now ≡ Some (Chains chain) → result ≡ Status.Done → ChainedTo (λ end. (steps : ℕ) × (bodies : ℕ) × (services : ℕ) × (end ≡ ends.Done steps bodies services)) (order_of words.now) (F.told shelf.old) (F.told shelf.new) }
+    ensures status_done_generated { (gen : GenWords) → order_of words.now ≡ Some (Gens gen) → result ≡ Status.Done → AreDone gen.number_is }
+    ensures status_done_linted { (handler : LintWords) → order_of words.now ≡ Some (Lints handler) → result ≡ Status.Done → LintedTo IsYes (order_of words.now) (F.told shelf.old) (F.told shelf.new) }
+    ensures status_done_bounded { (table : BoundWords) → order_of words.now ≡ Some (Bounds table) → result ≡ Status.Done → BoundTo IsBounded (order_of words.now) (F.told shelf.old) (F.told shelf.new) }
     ensures status_budget_spent { result ≡ Status.BudgetSpent
         → RanTo (λ end. end ≡ BudgetSpent) (order_of words.now) (F.told shelf.old) (F.told shelf.new)
-        ⊎ ChainedTo (λ end. end ≡ ends.BudgetSpent) (order_of words.now) (F.told shelf.old) (F.told shelf.new) }
-    ensures status_broken { result ≡ Status.Broken → ChainedTo (λ end. (kind : BrokenBy) × (bodies : ℕ) × (end ≡ ends.Broken kind bodies)) (order_of words.now) (F.told shelf.old) (F.told shelf.new) }
+        ⊎ (ChainedTo (λ end. end ≡ ends.BudgetSpent) (order_of words.now) (F.told shelf.old) (F.told shelf.new)
+        ⊎ GeneratedTo (λ end. end ≡ ends.BudgetSpent) (order_of words.now)) }
+    ensures status_broken { result ≡ Status.Broken
+        → ChainedTo (λ end. (kind : BrokenBy) × (bodies : ℕ) × (end ≡ ends.Broken kind bodies)) (order_of words.now) (F.told shelf.old) (F.told shelf.new)
+        ⊎ GeneratedTo (λ end. (kind : BrokenBy) × (bodies : ℕ) × (end ≡ ends.Broken kind bodies)) (order_of words.now) }
     ensures status_usage { result ≡ Status.Usage → order_of words.now ≡ None }
     ensures status_absent { result ≡ Status.Absent → AtFile (IsAbsentFile (W.told out.old) (W.told out.new)) (plan_of (order_of words.now)) (F.told shelf.old) (F.told shelf.new) }
     ensures status_shelf_failed { result ≡ Status.ShelfFailed → AtFile (IsFailedFile (W.told out.old) (W.told out.new)) (plan_of (order_of words.now)) (F.told shelf.old) (F.told shelf.new) }
@@ -123,6 +140,9 @@ pub fn clic_main<F: Shelf, W: Sink>(
     ensures status_sink_failed { result ≡ Status.SinkFailed → Rose (W.told out.old).faults (W.told out.new).faults }
     ensures status_memory { ((script : MonitorWords) → order_of words.now ≡ Some (Monitors script) → ⊥) → result ≡ Status.Memory → Writes true (W.told out.old) (W.told out.new) [] }
     ensures status_memory_in_script { (script : MonitorWords) → order_of words.now ≡ Some (Monitors script) → result ≡ Status.Memory → WantsInScript script (F.told shelf.old) (F.told shelf.new) (W.told out.old) (W.told out.new) }
+    ensures status_rejected { result ≡ Status.Rejected
+        → LintedTo IsNo (order_of words.now) (F.told shelf.old) (F.told shelf.new)
+        ⊎ BoundTo IsRefused (order_of words.now) (F.told shelf.old) (F.told shelf.new) }
     ensures status_vector_fault { result ≡ Status.VectorFault → RanTo (λ end. (id : ℕ) × (steps : ℕ) × (end ≡ VectorFault id steps)) (order_of words.now) (F.told shelf.old) (F.told shelf.new) }
 
     // Faults of the outside decide the status, those of the sink first. Where they rose, a front of the text due was

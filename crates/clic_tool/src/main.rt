@@ -1,4 +1,4 @@
-// The commands `asm`, `disasm`, `run`, `chain`, `monitor`, `mem` and `unmem`.
+// The commands `asm`, `disasm`, `run`, `chain`, `monitor`, `gen`, `mem`, `unmem`, `lint` and `bound`.
 #![tactic(auto)]
 
 mod assemble_command;
@@ -9,14 +9,30 @@ mod bench;
 mod bench_tests;
 #[cfg(test)]
 mod board_tests;
+mod bound_command;
+mod bound_order;
+mod bounding;
 mod chain_command;
 mod chain_order;
+mod chain_running;
+#[cfg(test)]
+mod chain_sink_tests;
 mod chaining;
 mod command;
 mod disassemble_command;
 mod disassemble_order;
 mod disassembling;
+mod gen_command;
+mod gen_events;
+mod gen_image;
+mod gen_order;
+mod generating;
 mod image_file;
+mod lint_command;
+mod lint_order;
+#[cfg(test)]
+mod lint_tests;
+mod linting;
 mod mem_command;
 mod mem_order;
 mod mem_reading;
@@ -27,6 +43,7 @@ mod monitor_order;
 mod monitoring;
 mod order;
 mod order_reading;
+mod prepared;
 mod run_command;
 mod run_order;
 mod running;
@@ -37,6 +54,7 @@ mod shelf_tests;
 #[cfg(test)]
 mod sink_tests;
 mod source_file;
+mod stack_region;
 #[cfg(test)]
 mod tests;
 mod unmem_command;

@@ -5,8 +5,11 @@ ghost use Rattle.tool_frame.specs.Options.{starts_with};
 ghost use Rattle.clic_tool.specs.Order.{order_of, view};
 
 use crate::assemble_command::read_assemble;
+use crate::bound_command::read_bound;
 use crate::chain_command::read_chain;
 use crate::disassemble_command::read_disassemble;
+use crate::gen_command::read_gen;
+use crate::lint_command::read_lint;
 use crate::mem_command::read_mem;
 use crate::monitor_command::read_monitor;
 use crate::order::Order;
@@ -49,6 +52,11 @@ pub fn read_order<'a>(alloc: Global, words: &'a Words) -> Result<Option<Order<'a
             Some(order) => Ok(Some(Order::Monitor(order))),
             None => Ok(None),
         }
+    } else if names(words, "gen") {
+        match read_gen(alloc, words.as_slice())? {
+            Some(order) => Ok(Some(Order::Gen(order))),
+            None => Ok(None),
+        }
     } else if names(words, "asm") {
         match read_assemble(alloc, words.as_slice())? {
             Some(order) => Ok(Some(Order::Assemble(order))),
@@ -67,6 +75,16 @@ pub fn read_order<'a>(alloc: Global, words: &'a Words) -> Result<Option<Order<'a
     } else if names(words, "unmem") {
         match read_unmem(alloc, words.as_slice())? {
             Some(order) => Ok(Some(Order::Unmem(order))),
+            None => Ok(None),
+        }
+    } else if names(words, "lint") {
+        match read_lint(alloc, words.as_slice())? {
+            Some(order) => Ok(Some(Order::Lint(order))),
+            None => Ok(None),
+        }
+    } else if names(words, "bound") {
+        match read_bound(alloc, words.as_slice())? {
+            Some(order) => Ok(Some(Order::Bound(order))),
             None => Ok(None),
         }
     } else {

@@ -10,18 +10,15 @@ const TRACED: [&str; 5] = ["run", "i.img", "s.txt", "100", "--trace"];
 
 const SCRIPTED: [&str; 3] = ["monitor", "i.img", "s.txt"];
 
-// The command of these words, with the put of this number failing, writes a front of this text, or all of it.
+// The case, with the put of this number failing, writes a front of this text, or all of it.
 fn stops_at(
     rt: &impl Abort,
     alloc: Global,
-    words: &[&str],
+    case: &Case,
     put: u64,
     text: &[u8],
 ) -> Result<bool, Fail> {
-    let failing = Case {
-        put,
-        ..given(words, &HALTS, b"")
-    };
+    let failing = Case { put, ..*case };
     let (status, out) = answered(alloc, &failing)?;
     assert!(rt; text.starts_with(out.bytes()));
     let whole = out.bytes().len() == text.len();
@@ -34,21 +31,38 @@ fn stops_at(
     Ok(!whole)
 }
 
-// How many puts fail when each up to a number fails in turn.
-fn failures(rt: &impl Abort, alloc: Global, words: &[&str], text: &[u8]) -> Result<u64, Fail> {
+/// How many puts fail when each up to a number fails in turn.
+pub fn failures(rt: &impl Abort, alloc: Global, case: &Case, text: &[u8]) -> Result<u64, Fail> {
     let mut count: u64 = 0;
     for put in 1..100 {
-        if stops_at(rt, alloc, words, put, text)? {
+        if stops_at(rt, alloc, case, put, text)? {
             count = count.saturating_add(1);
         }
     }
     Ok(count)
 }
 
+/// With room for less than the text as much of it is written as there is room for, and with room for it all.
+pub fn rooms(rt: &impl Abort, alloc: Global, case: &Case, text: &[u8]) -> Result<(), Fail> {
+    for room in [0, 1, text.len().saturating_sub(1)] {
+        let small = Case { room, ..*case };
+        let (status, out) = answered(alloc, &small)?;
+        assert_eq!(rt; status, Status::SinkFailed, "room {room}");
+        assert_eq!(rt; out.bytes().len(), room);
+        assert!(rt; text.starts_with(out.bytes()), "room {room}");
+    }
+    let enough = Case {
+        room: text.len(),
+        ..*case
+    };
+    answers(rt, alloc, &enough, Status::Done, text)
+}
+
 // The report is one put for each of its first 43 lines, and one for the bytes that were sent.
 #[test]
 fn each_put_fails_in_turn(rt: HostRuntime) -> Result<(), Fail> {
-    assert_eq!(rt; failures(&rt, rt.alloc(), &WORDS, REPORT)?, 44);
+    let case = given(&WORDS, &HALTS, b"");
+    assert_eq!(rt; failures(&rt, rt.alloc(), &case, REPORT)?, 44);
     Ok(())
 }
 
@@ -58,7 +72,8 @@ fn each_put_of_a_trace_fails_in_turn(rt: HostRuntime) -> Result<(), Fail> {
     let mut text = Vec::new(rt.alloc());
     text.extend_from_slice(b"i 00000000 00500513\ni 00000004 100032B7\ni 00000008 00A2A023\n")?;
     text.extend_from_slice(REPORT)?;
-    assert_eq!(rt; failures(&rt, rt.alloc(), &TRACED, &text)?, 47);
+    let case = given(&TRACED, &HALTS, b"");
+    assert_eq!(rt; failures(&rt, rt.alloc(), &case, &text)?, 47);
     Ok(())
 }
 
@@ -79,21 +94,7 @@ fn the_first_put_fails(rt: HostRuntime) -> Result<(), Fail> {
 
 #[test]
 fn the_room_is_too_small(rt: HostRuntime) -> Result<(), Fail> {
-    for room in [0, 1, REPORT.len() - 1] {
-        let small = Case {
-            room,
-            ..given(&WORDS, &HALTS, b"")
-        };
-        let (status, out) = answered(rt.alloc(), &small)?;
-        assert_eq!(rt; status, Status::SinkFailed, "room {room}");
-        assert_eq!(rt; out.bytes().len(), room);
-        assert!(rt; REPORT.starts_with(out.bytes()), "room {room}");
-    }
-    let enough = Case {
-        room: REPORT.len(),
-        ..given(&WORDS, &HALTS, b"")
-    };
-    answers(&rt, rt.alloc(), &enough, Status::Done, REPORT)
+    rooms(&rt, rt.alloc(), &given(&WORDS, &HALTS, b""), REPORT)
 }
 
 #[test]
@@ -176,7 +177,8 @@ const MEMORY: &[u8] = b"@00000000\n13 05 50 00 B7 32 00 10 23 A0 A2 00\n";
 // A memory text is one put.
 #[test]
 fn the_put_of_a_memory_text_fails(rt: HostRuntime) -> Result<(), Fail> {
-    assert_eq!(rt; failures(&rt, rt.alloc(), &["mem", "i.img"], MEMORY)?, 1);
+    let case = given(&["mem", "i.img"], &HALTS, b"");
+    assert_eq!(rt; failures(&rt, rt.alloc(), &case, MEMORY)?, 1);
     Ok(())
 }
 
@@ -199,18 +201,24 @@ fn the_put_of_its_image_fails(rt: HostRuntime) -> Result<(), Fail> {
     )
 }
 
+const SCRIPT: &[u8] = b"step 1\nmem 0 4\nback\nrun 10\n";
+
+const TOLD: &[u8] =
+    b"i 00000000 00500513\nmem 00000000 13055000\nback 00000000\nstop halt 0000000C\n";
+
 // The monitor puts a line at a time.
 #[test]
 fn each_put_of_a_script_fails_in_turn(rt: HostRuntime) -> Result<(), Fail> {
-    let text = b"i 00000000 00500513\nmem 00000000 13055000\nback 00000000\nstop halt 0000000C\n";
-    let cases = [(1, 0), (2, 20), (3, 42), (4, 56)];
-    for (put, length) in cases {
-        let failing = Case {
-            put,
-            ..given(&SCRIPTED, &HALTS, b"step 1\nmem 0 4\nback\nrun 10\n")
-        };
-        let front = text.get(..length).unwrap_or(b"");
+    let case = given(&SCRIPTED, &HALTS, SCRIPT);
+    for (put, length) in [(1, 0), (2, 20), (3, 42), (4, 56)] {
+        let failing = Case { put, ..case };
+        let front = TOLD.get(..length).unwrap_or(b"");
         answers(&rt, rt.alloc(), &failing, Status::SinkFailed, front)?;
     }
     Ok(())
+}
+
+#[test]
+fn the_room_of_a_script_is_too_small(rt: HostRuntime) -> Result<(), Fail> {
+    rooms(&rt, rt.alloc(), &given(&SCRIPTED, &HALTS, SCRIPT), TOLD)
 }

@@ -9,7 +9,7 @@ use tool_frame::Status;
 pub const NEVER: u64 = 100_000;
 
 pub const USAGE: &[u8] =
-    b"usage: clic_tool asm | disasm | run | chain | monitor | gen | mem | unmem\n";
+    b"usage: clic_tool asm | disasm | run | chain | monitor | gen | mem | unmem | lint | bound\n";
 
 /// addi a0, zero, 5; lui t0, 0x10003; sw a0, 0(t0), in one segment at 0
 pub const HALTS: [u8; 32] = [

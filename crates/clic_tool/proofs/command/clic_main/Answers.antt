@@ -7,7 +7,9 @@ use Rattle.tool_frame.proofs.Fits.{IsOfCommand}
 use Rattle.tool_frame.proofs.Causes.{done_cause, absent_cause, failed_cause, refused_cause, sink_cause, memory_cause, stops_short, shelf_faults, shelf_absences}
 use Rattle.clic_tool.proofs.Plans.{plan_fits, plan_own, plan_begins}
 use Rattle.clic_tool.proofs.OrderCauses.{of_misuse, halted_cause, chained_cause, budget_cause, broken_cause, vector_cause, usage_cause}
+use Rattle.clic_tool.proofs.GenCauses.{generated_cause}
 use Rattle.clic_tool.proofs.MonitorCauses.{monitor_memory}
+use Rattle.clic_tool.proofs.LintCauses.{linted_cause, bounded_cause, rejected_cause}
 use Rattle.clic_tool.proofs.command.clic_main.Goals as goal
 
 -- each clause follows from what was done
@@ -34,6 +36,9 @@ returns g c =
       status_done = done_cause empty_bench plan status shelf shelf' sink sink' bench done;
       status_done_halted = halted_cause order status shelf shelf' sink sink' bench done;
       status_done_chained = chained_cause order status shelf shelf' sink sink' bench done;
+      status_done_generated = generated_cause order status shelf shelf' sink sink' bench done;
+      status_done_linted = linted_cause order status shelf shelf' sink sink' bench done;
+      status_done_bounded = bounded_cause order status shelf shelf' sink sink' bench done;
       status_budget_spent = budget_cause order status shelf shelf' sink sink' bench done;
       status_broken = broken_cause order status shelf shelf' sink sink' bench done;
       status_usage = usage_cause order status shelf shelf' sink sink' bench done;
@@ -43,6 +48,7 @@ returns g c =
       status_sink_failed = sink_cause empty_bench plan status shelf shelf' sink sink' bench own done;
       status_memory = λ other. memory_cause empty_bench plan status shelf shelf' sink sink' bench (plan_fits order other) done;
       status_memory_in_script = monitor_memory order status shelf shelf' sink sink' bench done;
+      status_rejected = rejected_cause order status shelf shelf' sink sink' bench done;
       status_vector_fault = vector_cause order status shelf shelf' sink sink' bench done;
       sink_faults_rose = stops_short IsOfCommand empty_bench plan status shelf shelf' sink sink' bench own done;
       shelf_faults_rose = shelf_faults empty_bench plan status shelf shelf' sink sink' bench done;
