@@ -111,6 +111,10 @@ cp whole received.mem
 row 'an image of a memory text' 0 unmem received.mem 512
 printf '@FFFF 01 02' >bad.mem
 row 'a refused memory text' 5 unmem bad.mem 0
+row 'a verdict' 0 lint received.img 636 536903680 536936448
+row 'a refused handler' 11 lint received.img 0 536903680 536936448
+row 'a bound of the stack' 0 bound received.img 536903680 536936448 256 16:255,18:127
+row 'a refused table' 11 bound received.img 536903680 536936448 0 16:255
 printf '5 line 3 1\n4 line 3 0\n' >bad.txt
 row 'a refused scenario' 5 run i.img bad.txt 10
 row 'an absent file' 3 run i.img no.txt 10
@@ -130,6 +134,7 @@ if is_built chain no.img no.txt looping 0; then
         row "two services, $dispatcher, traced" 0 chain "$top/tests/rows/interrupt.img" two.txt "$dispatcher" 1000 --trace
         row "220 services, $dispatcher" 0 chain received.img received.txt "$dispatcher" 20000
     done
+    row 'a direct service' 0 chain "$top/examples/urgent.img" "$top/examples/urgent.txt" looping 1000 --direct
     printf 'CLC1\0\0\0\0\001\0\0\0\300\0\0\0\001\0\0\0\007' >byte.img
     row 'a broken convention' 8 chain byte.img s.txt looping 10
     printf 'CLC1\0\0\0\0\001\0\0\0\277\0\0\0\001\0\0\0\007' >byte.img

@@ -1,5 +1,6 @@
 #!/usr/bin/env python3
-"""Each way to break the chain's convention once, under both dispatchers, with the text that was worked out by hand.
+"""Each way to break the chain's convention once, under both dispatchers, with the text that was worked out by hand; and
+with direct services, once without a hardware-vectored input, and then each way to break it in a direct service.
 
 A foreground of 27 instructions sets up the table, mtvec, the controller and five inputs, sets MIE with its 23rd, and
 halts. Each case changes some of its lines, or the handler of input 3, which is raised after 23 instructions unless the
@@ -71,6 +72,24 @@ CASES = [
     ("the board halts in a handler", {}, ["lui a0, 0x10003", "sw zero, 0(a0)"], 23, SERVICE, "HaltInHandler", 25, 39),
 ]
 
+# The same where input 3 is hardware-vectored, with direct services: the tenth line makes it so.
+HARD = {10: "lui t0, 0x40030"}
+DIRECT = "d 3 127 1\n"
+DIRECT_CASES = [
+    ("t0 is lost", HARD, ["addi t0, t0, 1", "mret"], 23, DIRECT, "RegisterLost", 25, 26),
+    ("ra is lost", HARD, ["addi ra, ra, 4", "mret"], 23, DIRECT, "RegisterLost", 25, 26),
+    ("a0 is lost", HARD, ["addi a0, a0, 1", "mret"], 23, DIRECT, "RegisterLost", 25, 26),
+    ("a direct handler reads a control register", HARD, ["csrr a0, mcause", "mret"], 23, DIRECT, "CsrTouched", 23, 24),
+    ("a direct handler reads a byte of the slot", HARD, ["lw a0, 64(zero)", "mret"], 23, DIRECT, "ReadsDispatch", 23, 24),
+    ("a direct handler calls", HARD, ["ecall"], 23, DIRECT, "Exception 11", 23, 24),
+    ("a direct handler returns as a chained one", HARD, ["ret"], 23, DIRECT, "Exception 2", 24, 25),
+    ("a direct handler jumps into the slot", HARD, ["jalr zero, 64(zero)"], 23, DIRECT, "EnteredDispatch", 24, 25),
+    ("the board halts in a direct handler", HARD, ["lui a0, 0x10003", "sw zero, 0(a0)"], 23, DIRECT, "HaltInHandler", 25, 26),
+    ("the direct table is outside memory", {**HARD, 4: "lui t0, 0x10"}, ["mret"], 23, "", "BadTable", 23, 23),
+    ("the direct table's word is in the slot", {**HARD, 4: "li t0, 128"}, ["mret"], 23, "", "BadTable", 23, 23),
+    ("the foreground goes back from no trap", {**HARD, 24: "mret"}, ["mret"], None, "", "CsrTouched", 23, 23),
+]
+
 
 def source(changes, handler):
     lines = [".entry start", ".org 0x10c", ".word h", ".org 0x200", "start:"]
@@ -90,18 +109,20 @@ def main():
     wrong = 0
     with tempfile.TemporaryDirectory() as folder:
         place = pathlib.Path(folder)
-        for name, changes, handler, count, services, kind, bodies, steps in CASES:
+        cases = [((), case) for case in CASES] + [(("--direct",), case) for case in CASES if case[5] != "HardVectored"]
+        cases += [(("--direct",), case) for case in DIRECT_CASES]
+        for options, (name, changes, handler, count, services, kind, bodies, steps) in cases:
             (place / "a.s").write_text(source(changes, handler))
             status, image = run("asm", place / "a.s")
             (place / "a.img").write_bytes(image)
             (place / "a.txt").write_text("" if count is None else f"{count} line 3 1\n")
             wanted = f"{services}end broken {kind} {bodies}\nsteps {steps}\n"
             for dispatcher in ("looping", "returning"):
-                got = run("chain", place / "a.img", place / "a.txt", dispatcher, "1000")
+                got = run("chain", place / "a.img", place / "a.txt", dispatcher, "1000", *options)
                 if status != 0 or got != (8, wanted.encode()):
                     wrong += 1
-                    print(f"broken: {name}, {dispatcher}: {status} {got} in place of {wanted!r}")
-    print(f"broken: {len(CASES)} cases under both dispatchers, {wrong} wrong")
+                    print(f"broken: {name}, {dispatcher} {options}: {status} {got} in place of {wanted!r}")
+    print(f"broken: {len(cases)} cases under both dispatchers, {wrong} wrong")
     return 1 if wrong else 0
 
 

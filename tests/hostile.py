@@ -50,10 +50,14 @@ REGISTERS = 'pc H\n' + ''.join('x%d H\n' % i for i in range(1, 32))
 CSRS = ''.join(name + ' H\n' for name in
                ('mstatus', 'mtvec', 'mtvt', 'mscratch', 'mepc', 'mcause', 'mtval', 'mintstatus', 'mintthresh'))
 OUTPUT = 'out N\n(?:o (?:[0-9A-F]{2}){1,32}\n)*'
-SERVICE = 's N N N\n'
+SERVICE = '[sd] N N N\n'
 ROW = 'ram 2000[0-9A-F]{3}0 (?:[0-9A-F]{2}|--){16}\n'
 BROKEN = ('(?:CsrTouched|RegisterLost|ReadsDispatch|WritesFrame|StackBad|BadTable|NoDispatcher|HardVectored'
           '|EnteredDispatch|Exception N|HaltInHandler) N\n')
+
+
+RULE = ('(?:TooLong|CodeOutside|NotSpelled|System|Backwards|UnknownTarget|UnknownAddress|StackAccess|RegionAccess'
+        '|StackPointer|RegisterChanged)')
 
 
 def pattern(text):
@@ -85,6 +89,10 @@ TEXTS = {
     ('gen', 0): pattern('gen N services N looping N returning N\n'),
     ('gen', 1): pattern('end budget\n'),
     ('gen', 8): pattern('end broken ' + BROKEN),
+    ('lint', 0): pattern('yes N\n'),
+    ('lint', 11): pattern('no ' + RULE + ' H\n'),
+    ('bound', 0): pattern('bound N\n'),
+    ('bound', 11): pattern('no (?:BadTable|' + RULE + ') H\n'),
 }
 USAGE = re.compile(b'usage: clic_tool asm [|] [a-z |]+\n')
 REFUSED = {role: pattern('refused %s (?:%s)\n' % (role, why)) for role, why in WHY.items()}
@@ -641,10 +649,21 @@ class Trial:
             raise Wrong('the %s is %s, and by the second reader %s' % (role, told or 'taken', wanted or 'taken'))
 
     def chains(self, roles, image, scenario, bound, trace):
-        """Both chains. Where both end, and not by the bound, they differ in their steps alone."""
+        """Both chains, with direct services and without. Where both end, and not by the bound, they differ in their steps alone."""
         if 'chain' not in self.there:
             return []
-        ends = [self.asks(roles, ['chain', image, scenario, dispatcher, str(bound)] + trace)
+        ends = self.both(roles, image, scenario, bound, trace)
+        direct = self.both(roles, image, scenario, bound, trace + ['--direct'])
+        for soft, other in zip(ends, direct):
+            if b'HardVectored' in other[1]:
+                raise Wrong('HardVectored with --direct')
+            if soft[0] in (0, 1, 8) and b'HardVectored' not in soft[1] and soft != other:
+                raise Wrong('another text with --direct where no hardware-vectored input ended the chain')
+        return ends + direct
+
+    def both(self, roles, image, scenario, bound, options):
+        """The chain under each dispatcher."""
+        ends = [self.asks(roles, ['chain', image, scenario, dispatcher, str(bound)] + options)
                 for dispatcher in ('looping', 'returning')]
         for status, text in ends:
             steps = re.search(rb'^steps ([0-9]+)$', text, re.M)
@@ -681,6 +700,12 @@ class Trial:
             if text != data:
                 raise Wrong('%s of %s gives another image' % (back[0], command))
         for status, text in self.chains(('image', 'scenario'), name, 'with.txt', bound, trace):
+            self.reads_as('image', status, text, wanted)
+        region = [str(0x20000000 + chance.choice((0, 0x8000, 0x10000))), str(0x20010000)]
+        for words in (['lint', name, str(chance.choice((0, 0x200, 0x254, chance.randrange(0x10000))))] + region,
+                      ['bound', name] + region + [str(chance.choice((0, 0x40, 0x100, 0xFFC0))),
+                                                  chance.choice(('3:255,5:127', '0:1', '16:255,18:127'))]):
+            status, text = self.asks(('image',), words)
             self.reads_as('image', status, text, wanted)
         if 'monitor' in self.there:
             self.put('with.script', script_by_grammar(chance))

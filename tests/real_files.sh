@@ -43,7 +43,7 @@ answers 4 'shelf failed folder.img\n' run first.img folder.img 10
 answers 5 'refused image BadMagic 0\n' run bad.img no.txt 10
 answers 5 'refused scenario BadLine 1\n' run first.img bad.txt 10
 answers 5 'refused image TooLarge\n' run large.img empty.txt 10
-answers 2 'usage: clic_tool asm | disasm | run | chain | monitor | gen | mem | unmem\n' run first.img empty.txt
+answers 2 'usage: clic_tool asm | disasm | run | chain | monitor | gen | mem | unmem | lint | bound\n' run first.img empty.txt
 
 answers 0 '00000008 b\n00000000 a\n' asm two.s --symbols
 answers 0 'CLC1\0010\0\0\0\002\0\0\0\0010\0\0\0\004\0\0\0\023\0\0\0\0\0\0\0\004\0\0\0\023\0\0\0' asm two.s
@@ -51,13 +51,17 @@ answers 3 'absent no.s\n' asm no.s
 answers 4 'shelf failed folder.img\n' asm folder.img
 answers 5 'refused source UnknownMnemonic 2\n' asm bad.s
 answers 5 'refused source TooLarge\n' asm large.s
-answers 2 'usage: clic_tool asm | disasm | run | chain | monitor | gen | mem | unmem\n' asm two.s --trace
+answers 2 'usage: clic_tool asm | disasm | run | chain | monitor | gen | mem | unmem | lint | bound\n' asm two.s --trace
 answers 3 'absent no.img\n' disasm no.img
 answers 5 'refused image BadMagic 0\n' disasm bad.img
 answers 4 'shelf failed folder.img\n' mem folder.img
 answers 4 'shelf failed folder.img\n' unmem folder.img 0
 answers 5 'refused memory BadByte 0\n' unmem bad.img 0
 answers 5 'refused memory TooLarge\n' unmem large.s 0
+answers 4 'shelf failed folder.img\n' lint folder.img 0 536870912 536936448
+answers 4 'shelf failed folder.img\n' bound folder.img 536870912 536936448 0 3:1
+answers 11 'no NotSpelled 0000000C\n' lint first.img 0 536870912 536936448
+answers 11 'no BadTable 00000040\n' bound first.img 536870912 536936448 0 16:1
 
 # A name with a space.
 "$top/clic_tool" run "a name.img" empty.txt 100 >out 2>err || fail "a name with a space: status $?"

@@ -1,7 +1,8 @@
 #!/bin/sh
-# Counts the host instructions that a step of `run` costs, where valgrind is installed, as the difference of two bounds
-# on a loop. More than the limit says that something which was inlined into the step is no more.
-limit=128
+# Counts the host instructions that a step of `run` and of `chain` costs, where valgrind is installed, as the difference
+# of two bounds on a loop. More than the limit says that something which was inlined into the step is no more.
+run_limit=122
+chain_limit=196
 top=$(cd "$(dirname "$0")/.." && pwd)
 command -v rt >/dev/null || { echo "speed: skipped, since there is no rt"; exit 0; }
 command -v valgrind >/dev/null || { echo "speed: skipped, since there is no valgrind"; exit 0; }
@@ -29,22 +30,30 @@ SOURCE
 "$top/clic_tool" asm loop.s >loop.img || exit 1
 : >empty.txt
 
-# The host instructions of a run with this bound, which ends with status 1.
+# The host instructions of a command with this bound, which ends with status 1.
 count() {
     valgrind --tool=cachegrind --cache-sim=no --cachegrind-out-file=/dev/null \
-        "$top/crates/clic_tool/out/clic_tool" run loop.img empty.txt "$1" 2>counts >/dev/null
+        "$top/crates/clic_tool/out/clic_tool" "$@" 2>counts >/dev/null
     sed -n 's/,//g; s/.*I *refs: *//p' counts
 }
 
-few=$(count 100000)
-many=$(count 300000)
-if [ -z "$few" ] || [ -z "$many" ]; then
-    echo "speed: skipped, since valgrind counted nothing"
-    exit 0
-fi
-step=$(((many - few) / 200000))
-if [ "$step" -gt "$limit" ]; then
-    echo "speed: a step costs $step host instructions, and not $limit at most" >&2
-    exit 1
-fi
-echo "speed: a step costs $step host instructions"
+# Holds a step of a command to a limit: the limit, and then its words up to the bound.
+hold() {
+    limit=$1
+    shift
+    few=$(count "$@" 100000)
+    many=$(count "$@" 300000)
+    if [ -z "$few" ] || [ -z "$many" ]; then
+        echo "speed: skipped, since valgrind counted nothing"
+        exit 0
+    fi
+    step=$(((many - few) / 200000))
+    if [ "$step" -gt "$limit" ]; then
+        echo "speed: a step of $1 costs $step host instructions, and not $limit at most" >&2
+        exit 1
+    fi
+    echo "speed: a step of $1 costs $step host instructions"
+}
+
+hold "$run_limit" run loop.img empty.txt
+hold "$chain_limit" chain loop.img empty.txt looping

@@ -18,6 +18,14 @@ writes 0 examples/lost.img asm examples/lost.s
 writes 0 examples/lost.said monitor examples/lost.img examples/lost.script
 writes 0 examples/two.img asm examples/two.s
 writes 0 examples/two.report chain examples/two.img examples/two.txt looping 1000
+writes 0 examples/station.img asm examples/station.s
+writes 0 examples/station.report chain examples/station.img examples/station.txt looping 1000
+sed 's/^steps 167$/steps 190/' examples/station.report >"$folder/station.report"
+writes 0 "$folder/station.report" chain examples/station.img examples/station.txt returning 1000
+writes 0 examples/urgent.img asm examples/urgent.s
+writes 0 examples/urgent.report chain examples/urgent.img examples/urgent.txt looping 1000 --direct
+writes 0 examples/urgent.report chain examples/urgent.img examples/urgent.txt returning 1000 --direct
+says 8 's 5 127 1\nend broken HardVectored 21\nsteps 35\n' chain examples/urgent.img examples/urgent.txt looping 1000
 
 # A program by its words.
 writes 0 tests/rows/interrupt.img asm tests/rows/interrupt.s
@@ -179,6 +187,40 @@ breaks "$(echo "$stack" | sed s/SIZE/16/)" '25 line 3 1\n' 'end broken StackBad 
 for dispatcher in looping returning; do
     says 8 'end broken HardVectored 23\nsteps 23\n' chain vector.img "$top/tests/rows/vector.txt" "$dispatcher" 100
 done
+
+# With direct services. The program of five inputs where 3 and 5 are hardware-vectored and their handler is MRET: what sed
+# does to it besides, the events, the status, and what the text begins with under both dispatchers.
+hard='/0x400202B7/s/.*/.word 0x400302B7/
+/^.org 0x10C/{n;s/.*/.word 0x270/}
+/^.org 0x114/{n;s/.*/.word 0x270/}'
+serves_directly() {
+    sed "$hard" "$top/tests/rows/interrupt.s" >hard.s
+    printf "$1" >>hard.s
+    answers 0 asm hard.s
+    cp "$written" hard.img
+    printf "$2" >hard.txt
+    for dispatcher in looping returning; do
+        begins "$3" "$4" chain hard.img hard.txt "$dispatcher" 1000 --direct
+    done
+}
+serves_directly 'mret\n' '23 line 3 1\n' 0 'd 3 127 1\nend halt 00000000\nsteps 29\nbodies 28\n'
+has 'mstatus 00001888' 'out 0'
+[ "$(grep -c '^ram' "$written")" -eq 0 ] || fail 'a direct service has a frame'
+for dispatcher in looping returning; do
+    says 8 'end broken HardVectored 23\nsteps 23\n' chain hard.img hard.txt "$dispatcher" 1000
+done
+serves_directly 'mret\n' '23 line 11 1\n24 line 3 1\n' 0 's 11 191 1\nd 3 127 1\nend halt 00000000\nsteps 60\nbodies 29\n'
+serves_directly 'addi t0, t0, 1\nmret\n' '23 line 3 1\n' 8 'd 3 127 1\nend broken RegisterLost 25\nsteps 26\n'
+
+# Where no such input comes, nothing is different.
+for dispatcher in looping returning; do
+    answers 0 chain five.img serves.txt "$dispatcher" 1000
+    cp "$written" soft.text
+    writes 0 soft.text chain five.img serves.txt "$dispatcher" 1000 --direct
+    answers 0 chain five.img serves.txt "$dispatcher" 1000 --trace
+    cp "$written" soft.text
+    writes 0 soft.text chain --direct five.img serves.txt "$dispatcher" --trace 1000
+done
 sed "$(echo "$stack" | sed s/SIZE/32/)" "$top/tests/rows/interrupt.s" >deep.s
 answers 0 asm deep.s
 cp "$written" deep.img
@@ -223,9 +265,64 @@ for pair in 'looping 12343' 'returning 14643'; do
     sed '1,/^bodies/d' "$written" | cmp - received.text || fail 'another report'
 done
 
+# ---- made chains
+
+# The events of `gen N`, as a scenario, by a reckoning of its own.
+pulses() {
+    awk -v n="$1" 'BEGIN {
+        split("3 5 7 9 11", inputs)
+        x = n
+        for (e = 0; e < n; e++) {
+            x = (1664525 * x + 1013904223) % 4294967296
+            at = 30 + 8 * e + int(x / 16777216) % 8
+            input = inputs[1 + int(x / 65536) % 5]
+            printf "%d line %d 1\n%d line %d 0\n", at, input, at, input
+        }
+    }'
+}
+
+# Its line. Each pulse is a service of 31 steps, and 16 more go round the loop. Where a pulse comes with the only body of
+# the service before, at no higher level, its handler is called at once, which costs the looping chain 23 steps less.
+line_of() {
+    pulses "$1" | awk -v n="$1" 'BEGIN { level[3] = level[5] = 127; level[7] = 255; level[9] = 63; level[11] = 191 }
+        $4 == 1 {
+            saved += NR > 1 && $1 == at + 1 && level[$3] <= level[input]
+            at = $1
+            input = $3
+        }
+        END { printf "gen %d services %d looping %d returning %d\n", n, n, 226 + 47 * n - 23 * saved, 226 + 47 * n }'
+}
+
+says 0 'gen 0 services 0 looping 226 returning 226\n' gen 0
+says 0 'gen 1 services 1 looping 273 returning 273\n' gen 1
+says 0 'gen 1000 services 1000 looping 47042 returning 47226\n' gen 1000
+for n in 0 1 2 7 +100 0321 1000 9999 10000; do
+    line_of "$n" >line.text
+    writes 0 line.text gen "$n"
+done
+
+# A source of the same program, with the same events, makes the same chains.
+{
+    printf '.entry 0x200\n'
+    for at in 10C 114 11C 124 12C; do printf '.org 0x%s\n.word last\n' $at; done
+    printf '.org 0x1F0\n.word 900\n.org 0x200\n'
+    sed -n '/0x20010137/,/0x02532623/p' "$top/tests/rows/interrupt.s"
+    printf 'lw s3, 0x1F0(zero)\ncsrsi mstatus, 8\nround: addi s3, s3, -1\nbnez s3, round\n'
+    printf 'lui t0, 0x10003\nsw zero, 0(t0)\nlast: ret\n'
+} >made.s
+answers 0 asm made.s
+cp "$written" made.img
+pulses 100 >made.txt
+set -- $(line_of 100)
+for pair in "looping $6" "returning $8"; do
+    answers 0 chain made.img made.txt "${pair% *}" 1000000
+    has 'end halt 00000000' "steps ${pair#* }"
+    [ "$(grep -c '^s ' "$written")" -eq 100 ] || fail 'other services'
+done
+
 # ---- words
 
-usage='usage: clic_tool asm | disasm | run | chain | monitor | gen | mem | unmem\n'
+usage='usage: clic_tool asm | disasm | run | chain | monitor | gen | mem | unmem | lint | bound\n'
 says 2 "$usage"
 says 2 "$usage" fly
 says 2 "$usage" fly i.img s.txt 5
@@ -261,6 +358,10 @@ says 2 "$usage" disasm --symbols
 says 2 "$usage" disassemble i.img
 says 2 "$usage" monitor i.img
 says 2 "$usage" monitor i.img s.txt 5
+says 2 "$usage" gen
+says 2 "$usage" gen 1 1
+says 2 "$usage" gen 1 --trace
+says 2 "$usage" generate 1
 says 2 "$usage" mem
 says 2 "$usage" mem i.img 0
 says 2 "$usage" mem i.img --trace
@@ -275,6 +376,11 @@ for entry in 4294967296 18446744073709551616 -1 -0 '' 5x 0x5 +; do
     says 2 "$usage" unmem no.mem "$entry"
 done
 says 2 "$usage" unmem -- no.mem -0
+
+# So is the number of `gen`.
+for n in 10001 18446744073709551616 -1 -0 '' 5x ' 5' 0x5 +; do
+    says 2 "$usage" gen "$n"
+done
 
 # A bound is a number as clap reads it.
 for bound in 1000000001 18446744073709551616 -1 -0 '' 5x ' 5' 0x5 +; do
@@ -605,6 +711,106 @@ answers 0 unmem "$top/tests/rows/hello.mem" 0
 cp "$written" hello.img
 answers 0 run hello.img s.txt 10000
 has 'end halt 00000000' 'out 14' 'o 48656C6C6F2066726F6D20432E0A'
+
+# ---- verdicts on handlers
+
+# The upper half of RAM, and all of it, as stack regions.
+upper='536903680 536936448'
+all='536870912 536936448'
+says 0 'yes 0\n' lint received.img 636 $upper
+says 0 'yes 0\n' lint received.img 668 $upper
+says 11 'no RegionAccess 0000028C\n' lint received.img 636 $all
+says 0 'yes 0\n' lint received.img 636 536936448 536870912
+
+# What is told of a handler at 0x200: the status, the text, and its words.
+judges() {
+    image handler.img 0 0x200 $3
+    says "$1" "$2" lint handler.img 512 $upper
+}
+judges 11 'no StackAccess 00000200\n' '0x00C12283 0x00008067'
+# addi sp, sp, -16; sw s0, 0(sp); addi s0, zero, 1; lw s0, 0(sp); addi sp, sp, 16; ret, and then without the lw
+saves='0xFF010113 0x00812023 0x00100413'
+judges 11 'no RegisterChanged 00000210\n' "$saves 0x01010113 0x00008067"
+judges 11 'no StackPointer 00000200\n' '0xFF110113 0x00008067'
+judges 11 'no UnknownAddress 00000200\n' '0x00052503 0x00008067'
+judges 11 'no UnknownTarget 00000200\n' '0x00050067'
+judges 11 'no Backwards 00000200\n' '0x0000006F'
+judges 11 'no System 00000200\n' '0x30046073'
+judges 11 'no NotSpelled 00000200\n' '0xFFFFFFFF'
+judges 0 'yes 16\n' "$saves 0x00012403 0x01010113 0x00008067"
+
+# Bit 0 of the handler's number doesn't count, and a number is one as clap reads it.
+says 0 'yes 16\n' lint handler.img 513 $upper
+says 0 'yes 16\n' lint handler.img +0512 $upper
+says 11 'no NotSpelled 0000FFFE\n' lint handler.img 65535 $upper
+says 11 'no NotSpelled 00000000\n' lint handler.img 0 $upper
+
+# A handler of 1,024 instructions and a return, and one less.
+awk 'BEGIN { print ".entry 0\n.org 0x200"; for (i = 0; i < 1024; i++) print "nop"; print "ret" }' >long.s
+answers 0 asm long.s
+cp "$written" long.img
+says 11 'no TooLong 00001200\n' lint long.img 512 $upper
+says 0 'yes 0\n' lint long.img 516 $upper
+
+# ---- bounds of the stack
+
+says 0 'bound 64\n' bound received.img $upper 256 16:255,18:127
+says 0 'bound 64\n' bound received.img $upper 319 18:127,16:255
+says 0 'bound 32\n' bound received.img $upper 256 16:127,18:127
+says 11 'no RegionAccess 0000028C\n' bound received.img $all 256 16:255,18:127
+says 0 'bound 64\n' bound five.img $upper 256 3:127,5:127,7:255
+says 0 'bound 96\n' bound five.img $upper 256 9:63,7:255,11:191
+says 11 'no NotSpelled 00000000\n' bound five.img $upper 256 4:127
+says 11 'no NotSpelled 00000000\n' bound five.img $upper 256 3:127,4:127,16:1
+says 11 'no BadTable 00000040\n' bound five.img $upper 0 16:1
+says 11 'no BadTable 000000BC\n' bound five.img $upper 64 31:1
+says 11 'no NotSpelled 00000000\n' bound five.img $upper 64 32:1
+says 11 'no BadTable 00010000\n' bound five.img $upper 65472 16:1
+image table.img 0 0x100 0x20000001 0x00000103
+says 11 'no CodeOutside 20000000\n' bound table.img $upper 256 0:1
+says 11 'no NotSpelled 00000102\n' bound table.img $upper 256 1:1
+
+# As many pairs as may be, and one more.
+pairs() {
+    awk -v count="$1" 'BEGIN { for (i = 0; i < count; i++) printf "%s3:%d", i ? "," : "", 1 + i % 255 }'
+}
+says 0 'bound 8160\n' bound five.img $upper 256 "$(pairs 1024)"
+
+# The words of both are refused before a file is. Behind two dashes a word is a name, or pairs.
+for word in '' , 3 3: :3 : 3:127, ,3:127 3:127,,5:127 3:0 3:00 3:256 1024:1 03:1 00:1 3:01 +3:1 3:+1 '3 :1' '3:1 ' 3:1:1 \
+    '3:1;5:1' 3:1,5 3:1,5: -3:1 3:-1 0x3:1 3:4294967297 4294967299:1 "$(pairs 1025)"; do
+    says 2 "$usage" bound no.img $upper 256 -- "$word"
+done
+for word in 0:1 1023:255 3:1,3:1,3:255 10:10,20:20; do
+    says 3 'absent no.img\n' bound no.img $upper 256 "$word"
+done
+for number in 65536 18446744073709551616 -1 -0 '' 5x 0x5 +; do
+    says 2 "$usage" lint no.img "$number" $upper
+done
+for number in 536870911 536936449 0 4294967296 -1 '' 0x20000000; do
+    says 2 "$usage" lint no.img 0 "$number" 536936448
+    says 2 "$usage" lint no.img 0 536870912 "$number"
+    says 2 "$usage" bound no.img "$number" 536936448 256 3:1
+    says 2 "$usage" bound no.img 536870912 "$number" 256 3:1
+done
+for number in 65473 -1 '' 0x100; do
+    says 2 "$usage" bound no.img $upper "$number" 3:1
+done
+says 2 "$usage" lint
+says 2 "$usage" lint i.img 0 536870912
+says 2 "$usage" lint i.img 0 $upper 0
+says 2 "$usage" lint i.img $upper 0
+says 2 "$usage" lint i.img 0 $upper --trace
+says 2 "$usage" bound
+says 2 "$usage" bound i.img $upper 256
+says 2 "$usage" bound i.img $upper 256 3:1 3:1
+says 2 "$usage" bound i.img 256 $upper 3:1
+says 2 "$usage" bounds i.img $upper 256 3:1
+says 3 'absent no.img\n' lint no.img 0 $upper
+says 3 'absent --x\n' lint -- --x 0 $upper
+printf XXXX >bad.img
+says 5 'refused image BadMagic 0\n' lint bad.img 0 $upper
+says 5 'refused image BadMagic 0\n' bound bad.img $upper 256 3:1
 
 cd "$top" || exit 1
 echo "texts: each program writes what it is to write"

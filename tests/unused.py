@@ -19,7 +19,6 @@ for one in (
     ("hart_memory", "proofs.PageLemmas", "before_front"),
     ("hart_words", "proofs.Bits", "even_halved"),
     ("hart_words", "proofs.Bits", "even_is"),
-    ("hart_words", "specs.Bits", "with_low_bits_clear"),
 ):
     ALLOWED[one] = LATER
 for module, names in {
