@@ -24,7 +24,8 @@ use Rattle.clic_select.specs.declared.choice.Choice.{Choice}
 use Rattle.hart_board.specs.State.{State}
 use Rattle.hart_board.specs.Valid.{IsBoard}
 use Rattle.hart_board.specs.Region.{region}
-use Rattle.hart_board.specs.Attempt.{decoded, performed}
+use Rattle.hart_board.specs.Attempt.{performed}
+use Rattle.rvc_encoding.specs.Decoding.{decoded}
 use Rattle.hart_board.specs.Event.{AreEventsFrom, with_events}
 use Rattle.hart_board.specs.declared.event.Event.{Event}
 use Rattle.hart_board.specs.declared.trap.Trap.{Trap}

@@ -19,7 +19,8 @@ use Rattle.hart_memory.specs.declared.fetched.Fetched.{Fetched}
 use Rattle.hart_memory.specs.declared.fetched.Fetched.TheVariants.{Bits, Missing}
 use Rattle.hart_board.specs.State.{State}
 use Rattle.hart_board.specs.Access.{load, load_at, store, store_at}
-use Rattle.hart_board.specs.Attempt.{decoded, performed, performed_by, after_load, after_store, with_encoding, attempted, attempt_of, attempt}
+use Rattle.hart_board.specs.Attempt.{performed, performed_by, after_load, after_store, with_encoding, attempted, attempt_of, attempt}
+use Rattle.rvc_encoding.specs.Decoding.{decoded}
 use Rattle.hart_board.specs.declared.event.Event.{Event}
 use Rattle.hart_board.specs.declared.trap.Trap.{Trap}
 use Rattle.hart_board.specs.declared.trap.TheConstants.{FETCH_FAULT, LOAD_MISALIGNED, STORE_MISALIGNED}

@@ -12,7 +12,7 @@ use Rattle.clic_select.specs.Top.{top}
 use Rattle.clic_select.specs.declared.choice.Choice.{Choice}
 use Rattle.clic_trap.specs.Due.{due, is_above}
 use Rattle.hart_board.specs.State.{State}
-use Rattle.hart_board.specs.Attempt.{decoded}
+use Rattle.rvc_encoding.specs.Decoding.{decoded}
 use Rattle.hart_board.specs.declared.trap.TheConstants.{FETCH_FAULT, ILLEGAL_INSTRUCTION}
 use Rattle.chain_core.specs.Slot.{back}
 use Rattle.chain_core.specs.Servicing.{innermost_level}

@@ -22,12 +22,8 @@ use crate::slot::{BACK, BASE, SLOT_END};
 use crate::watch::Watch;
 use clic_trap::due;
 use device_model::Device;
-use hart_board::{Board, Prepared};
+use hart_board::{Board, FETCH_FAULT, ILLEGAL_INSTRUCTION, Prepared};
 use hart_memory::{BANK_LEN, Fetched, fetch};
-
-const FETCH_FAULT: u16 = 1;
-
-const ILLEGAL_INSTRUCTION: u16 = 2;
 
 // The stack pointer.
 const SP: u8 = 2;

@@ -9,12 +9,10 @@ use crate::convention::is_permitted;
 use crate::slot::{BASE, SLOT_END};
 use crate::verdict::Verdict;
 use crate::watch::Watch;
+use hart_board::FETCH_FAULT;
 use hart_exec::Effect;
 use hart_memory::place_of;
 use rv_encoding::Ins;
-
-// The exception of a fetch outside memory.
-const FETCH_FAULT: u16 = 1;
 
 // What no test refuses, by what the instruction asks for.
 fn verdict_by(effect: Effect) -> Verdict

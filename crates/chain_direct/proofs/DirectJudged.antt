@@ -13,7 +13,8 @@ use Rattle.hart_memory.specs.declared.fetched.Fetched.TheVariants.{Bits, Missing
 use Rattle.clic_trap.specs.System.{system}
 use Rattle.clic_trap.specs.Return.{returned}
 use Rattle.hart_board.specs.State.{State}
-use Rattle.hart_board.specs.Attempt.{decoded, performed, with_encoding, attempted, attempt_of, attempt}
+use Rattle.hart_board.specs.Attempt.{performed, with_encoding, attempted, attempt_of, attempt}
+use Rattle.rvc_encoding.specs.Decoding.{decoded}
 use Rattle.hart_board.specs.declared.event.Event.{Event}
 use Rattle.hart_board.specs.declared.trap.Trap.{Trap}
 use Rattle.hart_board.specs.declared.encoding.Encoding.{Encoding}

@@ -12,7 +12,8 @@ use Rattle.hart_memory.specs.Fetch.{fetched}
 use Rattle.hart_memory.specs.declared.fetched.Fetched.{Fetched}
 use Rattle.hart_memory.specs.declared.fetched.Fetched.TheVariants.{Bits, Missing}
 use Rattle.hart_board.specs.State.{State}
-use Rattle.hart_board.specs.Attempt.{decoded, performed}
+use Rattle.hart_board.specs.Attempt.{performed}
+use Rattle.rvc_encoding.specs.Decoding.{decoded}
 use Rattle.hart_board.specs.declared.trap.Trap.{Trap}
 use Rattle.hart_board.specs.declared.event.Event.{Event}
 use Rattle.chain_core.specs.Servicing.{Servicing, marks}

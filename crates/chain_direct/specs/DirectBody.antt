@@ -10,7 +10,8 @@ use Rattle.hart_memory.specs.Fetch.{fetched}
 use Rattle.hart_memory.specs.declared.fetched.Fetched.{Fetched}
 use Rattle.hart_memory.specs.declared.fetched.Fetched.TheVariants.{Bits, Missing}
 use Rattle.hart_board.specs.State.{State}
-use Rattle.hart_board.specs.Attempt.{decoded, performed}
+use Rattle.hart_board.specs.Attempt.{performed}
+use Rattle.rvc_encoding.specs.Decoding.{decoded}
 use Rattle.hart_board.specs.Event.{with_events}
 use Rattle.hart_board.specs.declared.trap.Trap.{Trap}
 use Rattle.hart_board.specs.declared.trap.TheConstants.{FETCH_FAULT, ILLEGAL_INSTRUCTION}

@@ -7,7 +7,7 @@ use Rattle.hart_memory.specs.Fetch.{fetched}
 use Rattle.hart_memory.specs.declared.fetched.Fetched.{Fetched}
 use Rattle.hart_memory.specs.declared.fetched.Fetched.TheVariants.{Bits, Missing}
 use Rattle.hart_board.specs.State.{State}
-use Rattle.hart_board.specs.Attempt.{decoded}
+use Rattle.rvc_encoding.specs.Decoding.{decoded}
 use Rattle.hart_board.specs.declared.trap.TheConstants.{FETCH_FAULT, ILLEGAL_INSTRUCTION}
 use Rattle.chain_core.specs.Tests.{first_broken, first_tests, second_tests}
 use Rattle.chain_core.specs.Body.{is_long_at}

@@ -18,15 +18,12 @@ use chain_core::{Broken, Verdict, Watch, is_long, table_address};
 use clic_select::Choice;
 use clic_trap::due;
 use device_model::Device;
-use hart_board::{Board, decode};
+use hart_board::{Board, FETCH_FAULT, ILLEGAL_INSTRUCTION};
 use hart_exec::{Effect, execute};
 use hart_memory::{Fetched, fetch, place_of};
 use hart_words::Regs;
 use rv_encoding::Ins;
-
-const FETCH_FAULT: u16 = 1;
-
-const ILLEGAL_INSTRUCTION: u16 = 2;
+use rvc_encoding::decode_bits;
 
 /// The tests of a direct service that begins, by the address of its word in the table.
 #[tactic(auto, unfolding(chain_core::specs::Tests::first_broken))]
@@ -93,7 +90,7 @@ fn judge_fetched<D: Device>(board: &Board<D>, watch: &Watch, found: Fetched) -> 
             return DirectVerdict::Goes(Verdict::Refused(Broken::Exception(FETCH_FAULT)));
         }
     };
-    match decode(bits, length) {
+    match decode_bits(bits, length) {
         Some(ins) => {
             let effect = execute(&ins, length, board.regs(), board.pc());
             judge_instruction(watch, &ins, effect)

@@ -1,7 +1,7 @@
 -- What is found at one address, rule by rule.
 use Rattle.std.proofs.Common.{◌≡◌, ℕ, Bool, true, false, List, [], ◌∷◌, Option, Some, None, refl, ap, ◌∙◌}
 use Rattle.rv_encoding.specs.declared.instruction.Ins.{Ins}
-use Rattle.hart_board.specs.Attempt.{decoded}
+use Rattle.rvc_encoding.specs.Decoding.{decoded}
 use Rattle.chain_lint.specs.Flow.{Flow, value_of}
 use Rattle.chain_lint.specs.Rules.{first_why, rules_before, rules_after, broken_rule, or_why, is_bad_pointer, is_changed, Looked, Refused, Passed, looked, looked_code, looked_fetched, looked_ins, looked_by}
 use Rattle.chain_lint.specs.Look.{IsCodeAt}

@@ -15,7 +15,7 @@ use Rattle.hart_memory.specs.declared.fetched.Fetched.TheVariants.{Bits, Missing
 use Rattle.hart_memory.specs.declared.address_map.TheConstants.{BANK_LEN}
 pub use Rattle.hart_memory.proofs.PlaceLemmas.{place_rom}
 use Rattle.hart_memory.proofs.NumberLemmas.{number_same}
-use Rattle.hart_board.specs.Attempt.{decoded}
+use Rattle.rvc_encoding.specs.Decoding.{decoded}
 use Rattle.chain_core.specs.Slot.{in_slot, back}
 use Rattle.chain_core.specs.Bytes.{some_byte}
 use Rattle.chain_lint.specs.Flow.{Flow, value_of}

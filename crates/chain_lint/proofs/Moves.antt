@@ -14,7 +14,8 @@ use Rattle.hart_memory.specs.declared.fetched.Fetched.TheVariants.{Bits, Missing
 use Rattle.clic_select.specs.Top.{top}
 use Rattle.clic_select.specs.declared.choice.Choice.{Choice}
 use Rattle.hart_board.specs.State.{State}
-use Rattle.hart_board.specs.Attempt.{decoded, performed}
+use Rattle.hart_board.specs.Attempt.{performed}
+use Rattle.rvc_encoding.specs.Decoding.{decoded}
 use Rattle.hart_board.specs.Event.{with_events}
 use Rattle.hart_board.specs.declared.event.Event.{Event}
 use Rattle.hart_board.specs.declared.trap.Trap.{Trap}

@@ -9,7 +9,7 @@ use Rattle.hart_memory.specs.Place.{is_in_rom}
 use Rattle.hart_memory.specs.Fetch.{fetched, is_long}
 use Rattle.hart_memory.specs.declared.fetched.Fetched.{Fetched}
 use Rattle.hart_memory.specs.declared.fetched.Fetched.TheVariants.{Bits, Missing}
-use Rattle.hart_board.specs.Attempt.{decoded}
+use Rattle.rvc_encoding.specs.Decoding.{decoded}
 use Rattle.chain_core.specs.Slot.{in_slot}
 use Rattle.chain_core.specs.Bytes.{some_byte}
 use Rattle.chain_lint.specs.Flow.{Value, Entry, Const, Stack, Flow, value_of, depth, found}

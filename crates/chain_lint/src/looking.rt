@@ -12,10 +12,10 @@ use crate::look::Look;
 use crate::region::Region;
 use crate::rules::{is_bad_pointer, is_changed, rule_before};
 use crate::transfer::change;
-use hart_board::decode;
 use hart_memory::Banks;
 use hart_words::WantOfMemory;
 use rv_encoding::Ins;
+use rvc_encoding::decode_bits;
 
 // Where an instruction of that length at an address goes on.
 fn next(at: u32, length: u32, ins: &Ins) -> Look
@@ -64,7 +64,7 @@ pub fn look(code: &Banks, region: &Region, at: u32, flow: &mut Flow) -> Result<L
     let Some((bits, length)) = code_at(code, at) else {
         return Ok(Look::Refuses(LintWhy::CodeOutside));
     };
-    match decode(bits, length) {
+    match decode_bits(bits, length) {
         Some(ins) => look_at(region, at, length, &ins, flow),
         None => Ok(Look::Refuses(LintWhy::NotSpelled)),
     }

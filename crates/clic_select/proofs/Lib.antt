@@ -1,3 +1,4 @@
+mod ControllerBytes
 pub mod Tops
 pub mod Waiting
 pub mod Winners

@@ -1,6 +1,7 @@
 // Selection of the input that interrupts.
 #![tactic(auto)]
 
+mod byte_rows;
 mod choice;
 pub mod laws;
 mod selector;
@@ -9,6 +10,7 @@ mod steps;
 mod tests;
 mod tree;
 
+pub use byte_rows::{load_bytes, store_bytes};
 pub use choice::Choice;
 pub use selector::Selector;
 pub use steps::Steps;

@@ -30,7 +30,8 @@ use Rattle.hart_board.specs.State.{Outside, State}
 use Rattle.hart_board.specs.Region.{region}
 use Rattle.hart_board.specs.Outside.{loaded_in, stored_in}
 use Rattle.hart_board.specs.Access.{load_answer, load_at, load, store_answer, store_at, store}
-use Rattle.hart_board.specs.Attempt.{after_load, after_store, after_system, with_outcome, performed_by, performed, with_encoding, attempted, attempt_of, attempt, decoded}
+use Rattle.hart_board.specs.Attempt.{after_load, after_store, after_system, with_outcome, performed_by, performed, with_encoding, attempted, attempt_of, attempt}
+use Rattle.rvc_encoding.specs.Decoding.{decoded}
 use Rattle.hart_board.specs.Step.{step, turn_or_halted, turn_by, settled, raised, entered_at}
 use Rattle.hart_board.specs.declared.trap.Trap.{Trap}
 use Rattle.hart_board.specs.declared.encoding.Encoding.{Encoding}

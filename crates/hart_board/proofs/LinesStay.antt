@@ -29,7 +29,8 @@ use Rattle.clic_trap.specs.declared.csr_request.CsrRequest.{CsrRequest}
 use Rattle.clic_trap.specs.declared.csr_request.CsrRequest.TheVariants.{Illegal, NextInterrupt, Swap, Plain}
 use Rattle.hart_board.specs.State.{Outside, State}
 use Rattle.hart_board.specs.Region.{region}
-use Rattle.hart_board.specs.Outside.{with_device, bytes_read, bytes_written, and_then, device_loaded, loaded_in, stored_in}
+use Rattle.hart_board.specs.Outside.{with_device, device_loaded, loaded_in, stored_in}
+use Rattle.clic_select.specs.ByteRows.{bytes_read, bytes_written, and_then}
 use Rattle.hart_board.specs.Step.{step}
 use Rattle.hart_board.specs.Kinds.{HasLinesOf}
 use Rattle.hart_board.specs.declared.region.Region.{Region}

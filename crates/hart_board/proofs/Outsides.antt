@@ -19,7 +19,8 @@ use Rattle.hart_board.specs.Valid.{IsOutside}
 use Rattle.hart_board.specs.declared.region.Region.{Region}
 use Rattle.hart_board.specs.declared.region.Region.TheVariants.{Controller, Devices, Nowhere}
 use Rattle.hart_board.specs.declared.outside.TheConstants.{FIRST_DEVICE_INPUT}
-use Rattle.hart_board.specs.Outside.{loaded_in, stored_in, device_loaded, with_device, lines_set, bytes_read, bytes_written, above, and_then}
+use Rattle.hart_board.specs.Outside.{loaded_in, stored_in, device_loaded, with_device, lines_set}
+use Rattle.clic_select.specs.ByteRows.{bytes_read, bytes_written, above, and_then}
 use Rattle.hart_board.specs.Event.{is_free, is_free_input, IsInput, AreEventsFrom, applied_outside, arrived_outside_by, arrived_outside, taken_outside, events_outside}
 use Rattle.hart_board.specs.declared.what.What.{What}
 use Rattle.hart_board.specs.declared.what.What.TheVariants.{Line, Device}

@@ -39,7 +39,8 @@ use Rattle.hart_board.specs.State.{Outside, State}
 use Rattle.hart_board.specs.Region.{region}
 use Rattle.hart_board.specs.Outside.{loaded_in, stored_in}
 use Rattle.hart_board.specs.Access.{load, load_at, load_answer, store, store_at, store_answer}
-use Rattle.hart_board.specs.Attempt.{decoded, after_load, after_store, after_system, trap_value, performed_by, performed, with_encoding, attempted, attempt_of, attempt}
+use Rattle.hart_board.specs.Attempt.{after_load, after_store, after_system, trap_value, performed_by, performed, with_encoding, attempted, attempt_of, attempt}
+use Rattle.rvc_encoding.specs.Decoding.{decoded}
 use Rattle.hart_board.specs.Step.{step, tried, kept_if_raised, Turn}
 use Rattle.hart_board.specs.Event.{is_free, IsInput, AreEventsFrom, applied, with_events}
 use Rattle.hart_board.specs.declared.what.What.{What}

@@ -4,7 +4,7 @@ use Rattle.hart_exec.specs.Effect.{effect}
 use Rattle.hart_memory.specs.Fetch.{fetched}
 use Rattle.hart_memory.specs.declared.fetched.Fetched.TheVariants.{Bits}
 use Rattle.hart_board.specs.State.{State}
-use Rattle.hart_board.specs.Attempt.{decoded}
+use Rattle.rvc_encoding.specs.Decoding.{decoded}
 use Rattle.hart_board.specs.declared.prepared.Prepared.{Prepared}
 
 -- these bits are fetched at pc, they spell this instruction, and it asks for this

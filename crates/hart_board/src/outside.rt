@@ -14,10 +14,9 @@ ghost use Rattle.hart_board.specs.Region.{region};
 ghost use Rattle.hart_board.specs.Valid.{IsOutside};
 ghost use Rattle.hart_board.specs.Outside.{lines_set, with_device, reset_outside, device_loaded, loaded_in, stored_in};
 
-use crate::controller::{load_bytes, store_bytes};
 use crate::region::{Region, region_of};
 use clic_regs::Shape;
-use clic_select::{Choice, Selector};
+use clic_select::{Choice, Selector, load_bytes, store_bytes};
 use clic_trap::{Entered, SystemEnd, enter_interrupt, system};
 use csr_file::Csrs;
 use device_model::{Device, MAX_LINES, REGION_LEN, Stimulus};

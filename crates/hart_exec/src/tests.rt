@@ -138,11 +138,27 @@ fn branches(rt: HostRuntime) {
     }
 }
 
-// The others: the upper immediates, jumps (where rd is also rs1), accesses at a wrapped address, and the system's.
+// What instructions ask for at 0x200, where FIRST holds the greatest word and SECOND 0x12345678.
+fn ask_for(rt: &impl Abort, rows: &[(Ins, Effect)]) {
+    for &(ins, want) in rows {
+        assert_eq!(rt; effect_of(rt, ins, 0xFFFF_FFFF, 0x1234_5678), want);
+    }
+}
+
+// A register's new number, and the next instruction's address.
+fn go(rd: u8, value: u32, next: u32) -> Effect {
+    Effect::Go { rd, value, next }
+}
+
+// The upper immediates, jumps (where rd is also rs1), and the system's.
 #[test]
-fn other_instructions(rt: HostRuntime) {
-    let go = |rd, value, next| Effect::Go { rd, value, next };
-    let others = [
+fn jumps_and_upper_immediates(rt: HostRuntime) {
+    let jump = Ins::Jalr {
+        rd: FIRST,
+        rs1: FIRST,
+        imm: 2,
+    };
+    let rows = [
         (
             Ins::Lui {
                 rd: 5,
@@ -164,62 +180,53 @@ fn other_instructions(rt: HostRuntime) {
             },
             go(1, 0x204, 0x1FE),
         ),
-        (
-            Ins::Jalr {
-                rd: FIRST,
-                rs1: FIRST,
-                imm: 2,
-            },
-            go(FIRST, 0x204, 0),
-        ),
+        (jump, go(FIRST, 0x204, 0)),
         (Ins::Fence { pred: 15, succ: 15 }, go(0, 0, 0x204)),
         (Ins::Wfi, Effect::System),
         (Ins::Ecall, Effect::System),
-        (
-            Ins::Load {
-                op: LoadOp::Lh,
-                rd: 5,
-                rs1: FIRST,
-                imm: 3,
-            },
-            Effect::Load {
-                rd: 5,
-                at: 2,
-                width: 2,
-                signed: true,
-            },
-        ),
-        (
-            Ins::Load {
-                op: LoadOp::Lbu,
-                rd: 5,
-                rs1: SECOND,
-                imm: 4,
-            },
-            Effect::Load {
-                rd: 5,
-                at: 0x1234_567C,
-                width: 1,
-                signed: false,
-            },
-        ),
-        (
-            Ins::Store {
-                op: StoreOp::Sh,
-                rs1: FIRST,
-                rs2: SECOND,
-                imm: 3,
-            },
-            Effect::Store {
-                at: 2,
-                width: 2,
-                value: 0x5678,
-            },
-        ),
     ];
-    for (ins, want) in others {
-        assert_eq!(rt; effect_of(&rt, ins, 0xFFFF_FFFF, 0x1234_5678), want);
+    ask_for(&rt, &rows);
+}
+
+// A load into x5.
+fn load(op: LoadOp, rs1: u8, imm: u32) -> Ins {
+    Ins::Load {
+        op,
+        rd: 5,
+        rs1,
+        imm,
     }
+}
+
+fn loads(at: u32, width: u32, signed: bool) -> Effect {
+    Effect::Load {
+        rd: 5,
+        at,
+        width,
+        signed,
+    }
+}
+
+// Accesses, also at a wrapped address.
+#[test]
+fn accesses(rt: HostRuntime) {
+    let store = Ins::Store {
+        op: StoreOp::Sh,
+        rs1: FIRST,
+        rs2: SECOND,
+        imm: 3,
+    };
+    let stored = Effect::Store {
+        at: 2,
+        width: 2,
+        value: 0x5678,
+    };
+    let rows = [
+        (load(LoadOp::Lh, FIRST, 3), loads(2, 2, true)),
+        (load(LoadOp::Lbu, SECOND, 4), loads(0x1234_567C, 1, false)),
+        (store, stored),
+    ];
+    ask_for(&rt, &rows);
 }
 
 #[test]

@@ -1,9 +1,23 @@
 use super::*;
+use std::alloc::Global;
+use std::process::Abort;
 use std::test::Fail;
+
+// What an assembler's words are read as, and that each is spelled again.
+fn are_spelled(rt: &impl Abort, alloc: Global, words: &[(u32, &str)]) -> Result<(), Fail> {
+    for &(word, text) in words {
+        let ins = decode32(word).ok_or("no row spells it")?;
+        assert_eq!(rt; format!(in alloc; "{ins:?}")?.as_str(), text);
+        assert!(rt; fits(&ins));
+        assert_eq!(rt; encode32(&ins), word);
+        assert!(rt; is_canonical(word));
+    }
+    Ok(())
+}
 
 // A word of each row, as an assembler writes the line above it.
 #[test]
-fn a_word_of_each_row(rt: HostRuntime) -> Result<(), Fail> {
+fn upper_immediates_and_jumps(rt: HostRuntime) -> Result<(), Fail> {
     let words = [
         // lui t0, 0x10003
         (0x1000_32B7, "Lui { rd: 5, imm: 268447744 }"),
@@ -15,6 +29,13 @@ fn a_word_of_each_row(rt: HostRuntime) -> Result<(), Fail> {
         (0x5545_506F, "Jal { rd: 0, offset: 349524 }"),
         // jalr ra, -2048(t6)
         (0x800F_80E7, "Jalr { rd: 1, rs1: 31, imm: 4294965248 }"),
+    ];
+    are_spelled(&rt, rt.alloc(), &words)
+}
+
+#[test]
+fn branches(rt: HostRuntime) -> Result<(), Fail> {
+    let words = [
         // beq a0, zero, 2730
         (
             0x2A05_05E3,
@@ -45,6 +66,13 @@ fn a_word_of_each_row(rt: HostRuntime) -> Result<(), Fail> {
             0xFEB5_7FE3,
             "Branch { op: Bgeu, rs1: 10, rs2: 11, offset: 4294967294 }",
         ),
+    ];
+    are_spelled(&rt, rt.alloc(), &words)
+}
+
+#[test]
+fn loads_and_stores(rt: HostRuntime) -> Result<(), Fail> {
+    let words = [
         // lb a0, -1(a1)
         (
             0xFFF5_8503,
@@ -70,6 +98,13 @@ fn a_word_of_each_row(rt: HostRuntime) -> Result<(), Fail> {
         (0x54A5_9AA3, "Store { op: Sh, rs1: 11, rs2: 10, imm: 1365 }"),
         // sw a0, 0(t0)
         (0x00A2_A023, "Store { op: Sw, rs1: 5, rs2: 10, imm: 0 }"),
+    ];
+    are_spelled(&rt, rt.alloc(), &words)
+}
+
+#[test]
+fn immediate_operations(rt: HostRuntime) -> Result<(), Fail> {
+    let words = [
         // addi a0, zero, 5
         (0x0050_0513, "Imm { op: Addi, rd: 10, rs1: 0, imm: 5 }"),
         // slti a0, a1, -5
@@ -94,6 +129,13 @@ fn a_word_of_each_row(rt: HostRuntime) -> Result<(), Fail> {
         (0x0015_D513, "Imm { op: Srli, rd: 10, rs1: 11, imm: 1 }"),
         // srai a0, a1, 16
         (0x4105_D513, "Imm { op: Srai, rd: 10, rs1: 11, imm: 16 }"),
+    ];
+    are_spelled(&rt, rt.alloc(), &words)
+}
+
+#[test]
+fn register_operations(rt: HostRuntime) -> Result<(), Fail> {
+    let words = [
         // add a0, a1, t6
         (0x01F5_8533, "Reg { op: Add, rd: 10, rs1: 11, rs2: 31 }"),
         // sub a0, a1, t6
@@ -114,6 +156,13 @@ fn a_word_of_each_row(rt: HostRuntime) -> Result<(), Fail> {
         (0x01F5_E533, "Reg { op: Or, rd: 10, rs1: 11, rs2: 31 }"),
         // and a0, a1, t6
         (0x01F5_F533, "Reg { op: And, rd: 10, rs1: 11, rs2: 31 }"),
+    ];
+    are_spelled(&rt, rt.alloc(), &words)
+}
+
+#[test]
+fn multiplications_and_divisions(rt: HostRuntime) -> Result<(), Fail> {
+    let words = [
         // mul a0, a1, t6
         (0x03F5_8533, "Reg { op: Mul, rd: 10, rs1: 11, rs2: 31 }"),
         // mulh a0, a1, t6
@@ -130,6 +179,13 @@ fn a_word_of_each_row(rt: HostRuntime) -> Result<(), Fail> {
         (0x03F5_E533, "Reg { op: Rem, rd: 10, rs1: 11, rs2: 31 }"),
         // remu a0, a1, t6
         (0x03F5_F533, "Reg { op: Remu, rd: 10, rs1: 11, rs2: 31 }"),
+    ];
+    are_spelled(&rt, rt.alloc(), &words)
+}
+
+#[test]
+fn system_instructions(rt: HostRuntime) -> Result<(), Fail> {
+    let words = [
         // fence iorw, iorw
         (0x0FF0_000F, "Fence { pred: 15, succ: 15 }"),
         // fence i, w
@@ -142,6 +198,13 @@ fn a_word_of_each_row(rt: HostRuntime) -> Result<(), Fail> {
         (0x3020_0073, "Mret"),
         // wfi
         (0x1050_0073, "Wfi"),
+    ];
+    are_spelled(&rt, rt.alloc(), &words)
+}
+
+#[test]
+fn control_register_instructions(rt: HostRuntime) -> Result<(), Fail> {
+    let words = [
         // csrrw a0, 0x342, a1
         (
             0x3425_9573,
@@ -173,14 +236,7 @@ fn a_word_of_each_row(rt: HostRuntime) -> Result<(), Fail> {
             "Csr { op: Csrrci, rd: 0, source: 8, csr: 768 }",
         ),
     ];
-    for (word, text) in words {
-        let ins = decode32(word).ok_or("no row spells it")?;
-        assert_eq!(rt; format!(in rt.alloc(); "{ins:?}")?.as_str(), text);
-        assert!(rt; fits(&ins));
-        assert_eq!(rt; encode32(&ins), word);
-        assert!(rt; is_canonical(word));
-    }
-    Ok(())
+    are_spelled(&rt, rt.alloc(), &words)
 }
 
 // Words that no row spells: all zeros and all ones, function fields that RV32 leaves to other
@@ -239,32 +295,34 @@ fn ignored_bits_of_fence(rt: HostRuntime) {
 }
 
 // Values one past what their field holds.
+fn fit_none(rt: &impl Abort, instructions: &[Ins]) {
+    for ins in instructions {
+        assert!(rt; !fits(ins), "{ins:?}");
+    }
+}
+
+// An instruction on x0 and a number past its field.
+fn jump(offset: u32) -> Ins {
+    Ins::Jal { rd: 0, offset }
+}
+
+fn branch(offset: u32) -> Ins {
+    Ins::Branch {
+        op: BranchOp::Beq,
+        rs1: 0,
+        rs2: 0,
+        offset,
+    }
+}
+
 #[test]
-fn instructions_of_no_word(rt: HostRuntime) {
+fn offsets_of_no_word(rt: HostRuntime) {
     let instructions = [
         Ins::Lui { rd: 0, imm: 0x800 },
-        Ins::Jal { rd: 0, offset: 1 },
-        Ins::Jal {
-            rd: 0,
-            offset: 0x10_0000,
-        },
-        Ins::Jalr {
-            rd: 32,
-            rs1: 0,
-            imm: 0,
-        },
-        Ins::Branch {
-            op: BranchOp::Beq,
-            rs1: 0,
-            rs2: 0,
-            offset: 0x1000,
-        },
-        Ins::Branch {
-            op: BranchOp::Beq,
-            rs1: 0,
-            rs2: 0,
-            offset: 0xFFFF_FFFF,
-        },
+        jump(1),
+        jump(0x10_0000),
+        branch(0x1000),
+        branch(0xFFFF_FFFF),
         Ins::Load {
             op: LoadOp::Lw,
             rd: 0,
@@ -276,6 +334,18 @@ fn instructions_of_no_word(rt: HostRuntime) {
             rs1: 0,
             rs2: 0,
             imm: 0xFFFF_F7FF,
+        },
+    ];
+    fit_none(&rt, &instructions);
+}
+
+#[test]
+fn operands_of_no_word(rt: HostRuntime) {
+    let instructions = [
+        Ins::Jalr {
+            rd: 32,
+            rs1: 0,
+            imm: 0,
         },
         Ins::Imm {
             op: ImmOp::Slli,
@@ -297,7 +367,5 @@ fn instructions_of_no_word(rt: HostRuntime) {
             csr: 0x1000,
         },
     ];
-    for ins in instructions {
-        assert!(rt; !fits(&ins), "{ins:?}");
-    }
+    fit_none(&rt, &instructions);
 }

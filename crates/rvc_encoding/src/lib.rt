@@ -3,6 +3,7 @@
 
 mod compressed;
 mod decode;
+mod decoding;
 mod encode;
 mod expansion;
 mod fields;
@@ -16,6 +17,7 @@ mod tests;
 
 pub use compressed::Cins;
 pub use decode::decode16;
+pub use decoding::decode_bits;
 pub use encode::encode16;
 pub use expansion::expand;
 pub use fit::fits16;

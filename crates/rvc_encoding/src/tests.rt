@@ -1,9 +1,24 @@
 use super::*;
 use rv_encoding::encode32;
+use std::process::Abort;
 
-// One half-word of each row, as the manual's assembler spells the instruction, and the word that it stands for.
+// A row's half-word, its operands, and the word that it stands for.
+type Row = (u16, CRow, u8, u8, u32, u32);
+
+fn are_rows(rt: &impl Abort, rows: &[Row]) {
+    for &(half, row, a, b, imm, word) in rows {
+        let found = decode16(half);
+        assert_eq!(rt; found, Some(Cins { row, a, b, imm }), "{half}");
+        if let Some(c) = found {
+            assert_eq!(rt; encode16(&c), half);
+            assert_eq!(rt; encode32(&expand(&c)), word, "{half}");
+        }
+    }
+}
+
+// One half-word of each row, as the manual's assembler spells the instruction.
 #[test]
-fn each_row(rt: HostRuntime) {
+fn rows_of_quadrant_0(rt: HostRuntime) {
     let rows = [
         // addi a0, sp, 16
         (0x0808, CRow::Addi4spn, 10, 2, 16, 0x0101_0513),
@@ -11,6 +26,13 @@ fn each_row(rt: HostRuntime) {
         (0x4188, CRow::Lw, 10, 11, 0, 0x0005_A503),
         // sw a0, 0(a1)
         (0xC188, CRow::Sw, 11, 10, 0, 0x00A5_A023),
+    ];
+    are_rows(&rt, &rows);
+}
+
+#[test]
+fn immediate_rows_of_quadrant_1(rt: HostRuntime) {
+    let rows = [
         // nop
         (0x0001, CRow::Nop, 0, 0, 0, 0x0000_0013),
         // addi sp, sp, -16
@@ -29,6 +51,13 @@ fn each_row(rt: HostRuntime) {
         (0x8505, CRow::Srai, 10, 0, 1, 0x4015_5513),
         // andi a0, a0, 1
         (0x8905, CRow::Andi, 10, 0, 1, 0x0015_7513),
+    ];
+    are_rows(&rt, &rows);
+}
+
+#[test]
+fn other_rows_of_quadrant_1(rt: HostRuntime) {
+    let rows = [
         // sub a0, a0, a1
         (0x8D0D, CRow::Sub, 10, 11, 0, 0x40B5_0533),
         // xor a0, a0, a1
@@ -43,6 +72,13 @@ fn each_row(rt: HostRuntime) {
         (0xC101, CRow::Beqz, 10, 0, 0, 0x0005_0063),
         // bnez a0, 6
         (0xE119, CRow::Bnez, 10, 0, 6, 0x0005_1363),
+    ];
+    are_rows(&rt, &rows);
+}
+
+#[test]
+fn rows_of_quadrant_2(rt: HostRuntime) {
+    let rows = [
         // slli a0, a0, 1
         (0x0506, CRow::Slli, 10, 0, 1, 0x0015_1513),
         // lw ra, 12(sp)
@@ -60,14 +96,7 @@ fn each_row(rt: HostRuntime) {
         // sw ra, 12(sp)
         (0xC606, CRow::Swsp, 2, 1, 12, 0x0011_2623),
     ];
-    for (half, row, a, b, imm, word) in rows {
-        let found = decode16(half);
-        assert_eq!(rt; found, Some(Cins { row, a, b, imm }), "{half}");
-        if let Some(c) = found {
-            assert_eq!(rt; encode16(&c), half);
-            assert_eq!(rt; encode32(&expand(&c)), word, "{half}");
-        }
-    }
+    are_rows(&rt, &rows);
 }
 
 // Half-words that no row spells, by what the table asks of them.
@@ -99,49 +128,8 @@ fn lengths(rt: HostRuntime) {
 
 // What each bit of an immediate is worth, for each row that has one: the row's half-word with no such bit, and the
 // worths of bits 2 to 12, 0 where the bit is no immediate's.
-#[test]
-fn each_bit_of_an_immediate(rt: HostRuntime) {
-    let number = [1, 2, 4, 8, 16, 0, 0, 0, 0, 0, 0xFFFF_FFE0];
-    let amount = [1, 2, 4, 8, 16, 0, 0, 0, 0, 0, 0];
-    let word_offset = [0, 0, 0, 64, 4, 0, 0, 0, 8, 16, 32];
-    let jump = [32, 2, 4, 8, 128, 64, 1024, 256, 512, 16, 0xFFFF_F800];
-    let branch = [32, 2, 4, 64, 128, 0, 0, 0, 8, 16, 0xFFFF_FF00];
-    let rows = [
-        (0x0000, [0, 0, 0, 8, 4, 64, 128, 256, 512, 16, 32]),
-        (0x4000, word_offset),
-        (0xC000, word_offset),
-        (0x0001, number),
-        (0x0081, number),
-        (0x2001, jump),
-        (0x4001, number),
-        (0x6101, [32, 128, 256, 64, 16, 0, 0, 0, 0, 0, 0xFFFF_FE00]),
-        (
-            0x6081,
-            [
-                0x1000,
-                0x2000,
-                0x4000,
-                0x8000,
-                0x1_0000,
-                0,
-                0,
-                0,
-                0,
-                0,
-                0xFFFE_0000,
-            ],
-        ),
-        (0x8001, amount),
-        (0x8401, amount),
-        (0x8801, number),
-        (0xA001, jump),
-        (0xC001, branch),
-        (0xE001, branch),
-        (0x0082, amount),
-        (0x4082, [64, 128, 4, 8, 16, 0, 0, 0, 0, 0, 32]),
-        (0xC002, [0, 0, 0, 0, 0, 64, 128, 4, 8, 16, 32]),
-    ];
-    for (half, worths) in rows {
+fn are_worth(rt: &impl Abort, rows: &[(u16, [u32; 11])]) {
+    for &(half, worths) in rows {
         for (bit, worth) in worths.into_iter().enumerate() {
             if worth != 0 && bit < 11 {
                 let with_bit = half | 4 << bit;
@@ -153,6 +141,56 @@ fn each_bit_of_an_immediate(rt: HostRuntime) {
             }
         }
     }
+}
+
+#[test]
+fn each_bit_of_an_offset(rt: HostRuntime) {
+    let word_offset = [0, 0, 0, 64, 4, 0, 0, 0, 8, 16, 32];
+    let jump = [32, 2, 4, 8, 128, 64, 1024, 256, 512, 16, 0xFFFF_F800];
+    let branch = [32, 2, 4, 64, 128, 0, 0, 0, 8, 16, 0xFFFF_FF00];
+    let rows = [
+        (0x0000, [0, 0, 0, 8, 4, 64, 128, 256, 512, 16, 32]),
+        (0x4000, word_offset),
+        (0xC000, word_offset),
+        (0x2001, jump),
+        (0xA001, jump),
+        (0xC001, branch),
+        (0xE001, branch),
+        (0x4082, [64, 128, 4, 8, 16, 0, 0, 0, 0, 0, 32]),
+        (0xC002, [0, 0, 0, 0, 0, 64, 128, 4, 8, 16, 32]),
+    ];
+    are_worth(&rt, &rows);
+}
+
+#[test]
+fn each_bit_of_a_number(rt: HostRuntime) {
+    let number = [1, 2, 4, 8, 16, 0, 0, 0, 0, 0, 0xFFFF_FFE0];
+    let upper = [
+        0x1000,
+        0x2000,
+        0x4000,
+        0x8000,
+        0x1_0000,
+        0,
+        0,
+        0,
+        0,
+        0,
+        0xFFFE_0000,
+    ];
+    let amount = [1, 2, 4, 8, 16, 0, 0, 0, 0, 0, 0];
+    let rows = [
+        (0x0001, number),
+        (0x0081, number),
+        (0x4001, number),
+        (0x6101, [32, 128, 256, 64, 16, 0, 0, 0, 0, 0, 0xFFFF_FE00]),
+        (0x6081, upper),
+        (0x8001, amount),
+        (0x8401, amount),
+        (0x8801, number),
+        (0x0082, amount),
+    ];
+    are_worth(&rt, &rows);
 }
 
 // How many half-words each row spells, by its fields.
