@@ -1,7 +1,7 @@
 #!/usr/bin/env python3
 """Compares the words of the dispatchers with GNU objdump for RISC-V, where that is installed.
 
-The words and their instructions stand in chain_core/specs/Words.antt, and the words again in chain_core/src.
+The words and their instructions stand in chain_moves/specs/Words.antt, and the words again in chain_moves/src.
 """
 import os
 import re
@@ -23,7 +23,7 @@ def skip(why):
 
 def table():
     """The address, the word and the instruction of each row, for either dispatcher."""
-    text = open(os.path.join(TOP, 'crates', 'chain_core', 'specs', 'Words.antt')).read()
+    text = open(os.path.join(TOP, 'crates', 'chain_moves', 'specs', 'Words.antt')).read()
     chosen = {(name, kind): int(word, 16)
               for name, kind, word in re.findall(r'^(\w+_word) (Looping|Returning) = (0x[0-9A-F]+)', text, re.M)}
     rows = re.findall(r'^ +(?:∷ )?(0x[0-9A-F]+|\w+_word d) +-- ([0-9A-F]{2}): (.*)$', text, re.M)

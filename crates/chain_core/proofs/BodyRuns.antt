@@ -11,7 +11,7 @@ use Rattle.hart_board.specs.Steps.{stands_at, board_at, told_at, told_to, goes_o
 use Rattle.hart_board.specs.declared.event.Event.{Event}
 use Rattle.hart_report.specs.declared.stepped.Stepped.{Stepped}
 use Rattle.hart_report.specs.declared.stepped.Stepped.TheVariants.{Retired, Halted}
-use Rattle.chain_core.specs.Slot.{in_slot, call, back}
+use Rattle.chain_moves.specs.Slot.{in_slot, call, back}
 use Rattle.chain_core.specs.ChainRun.{is_body, chained_at, nothing_read, read_at, read_services, read_to}
 
 -- the run's first k steps: where it stands, that it goes on, and what was read off

@@ -5,27 +5,27 @@ use Rattle.std.proofs.lemmas.Bool.{leb-true}
 use Rattle.device_model.specs.Meanings.{Meanings, IsSound as IsSoundDevice}
 use Rattle.hart_board.specs.State.{State}
 use Rattle.hart_board.specs.declared.event.Event.{Event}
-use Rattle.chain_core.specs.Slot.{base, slot_end}
-use Rattle.chain_core.specs.Servicing.{Servicing}
-use Rattle.chain_core.specs.Machine.{Ends}
-use Rattle.chain_core.specs.Run.{Made, Over, run_to, Leads, IsRun}
-use Rattle.chain_core.specs.Moves.{move, servicing_machine}
-use Rattle.chain_core.specs.Cost.{cost}
+use Rattle.chain_moves.specs.Slot.{base, slot_end}
+use Rattle.chain_moves.specs.Servicing.{Servicing}
+use Rattle.chain_moves.specs.Machine.{Ends}
+use Rattle.chain_moves.specs.Run.{Made, Over, run_to, Leads, IsRun}
+use Rattle.chain_moves.specs.Moves.{move, servicing_machine}
+use Rattle.chain_moves.specs.Cost.{cost}
 use Rattle.chain_core.specs.Counts.{counts}
 use Rattle.chain_core.specs.End.{end_by, end_of, end_at}
-use Rattle.chain_core.specs.Start.{begun}
+use Rattle.chain_moves.specs.Start.{begun}
 use Rattle.chain_core.specs.ChainRun.{read_to}
 use Rattle.chain_core.specs.Chain.{chain_end, board_after, is_done, AgreesWith, AgreesAtEnd, AgreesWhereDone}
 use Rattle.chain_core.specs.Both.{with_slot_bytes, Starts, SameBoards, BothAgree}
-use Rattle.chain_core.specs.declared.dispatcher.Dispatcher.{Dispatcher}
-use Rattle.chain_core.specs.declared.dispatcher.Dispatcher.TheVariants.{Looping, Returning}
-use Rattle.chain_core.specs.declared.moves.Move.{Move}
+use Rattle.chain_moves.specs.declared.dispatcher.Dispatcher.{Dispatcher}
+use Rattle.chain_moves.specs.declared.dispatcher.Dispatcher.TheVariants.{Looping, Returning}
+use Rattle.chain_moves.specs.declared.moves.Move.{Move}
 use Rattle.chain_core.specs.declared.ended.Ended.{Ended}
 use Rattle.chain_core.specs.declared.chain_end.ChainEnd.TheVariants.{Done, BudgetSpent}
-use Rattle.chain_core.proofs.Leading.{is_run}
+use Rattle.chain_moves.proofs.Leading.{is_run}
 use Rattle.chain_core.proofs.Bounded.{same_over, services_are as moves_services, over_last}
 use Rattle.chain_core.proofs.Costs.{over_costs}
-use Rattle.chain_core.proofs.Starts.{starts_same}
+use Rattle.chain_moves.proofs.Starts.{starts_same}
 use Rattle.chain_core.proofs.ChainEnds.{ends_from, services_are, state_is}
 
 -- a chain that is done after so many steps, bodies and services

@@ -2,15 +2,15 @@
 use Rattle.std.proofs.Common.{◌≡◌, ℕ, suc, ◌+◌, ◌<◌, ◌≤◌, ⊎_elim, Bool, true, false, List, [], ◌∷◌, length, refl, sym, ap, ◌∙◌, subst, arith}
 use Rattle.std.specs.Prelude.{nat_le}
 use Rattle.std.proofs.lemmas.Bool.{le-leb, leb-true, cases_eq, cases_lt}
-use Rattle.chain_core.specs.Machine.{When, Before, Within, After, Moved, Makes, Breaks, Ends, Machine}
-use Rattle.chain_core.specs.Run.{Made, Run, On, Broke, Over, run_to, Leads, IsRun}
-use Rattle.chain_core.specs.Cost.{cost}
+use Rattle.chain_moves.specs.Machine.{When, Before, Within, After, Moved, Makes, Breaks, Ends, Machine}
+use Rattle.chain_moves.specs.Run.{Made, Run, On, Broke, Over, run_to, Leads, IsRun}
+use Rattle.chain_moves.specs.Cost.{cost}
 use Rattle.chain_core.specs.End.{steps_before, steps_needed, end_by, end_of, end_at, services_within, IsListed}
-use Rattle.chain_core.specs.declared.broken.Broken.{Broken}
-use Rattle.chain_core.specs.declared.dispatcher.Dispatcher.{Dispatcher}
+use Rattle.chain_moves.specs.declared.broken.Broken.{Broken}
+use Rattle.chain_moves.specs.declared.dispatcher.Dispatcher.{Dispatcher}
 use Rattle.chain_core.specs.declared.chain_end.ChainEnd.{ChainEnd}
 use Rattle.chain_core.specs.declared.chain_end.ChainEnd.TheVariants.{Done, BudgetSpent, Broken as BrokenOff}
-use Rattle.chain_core.proofs.Leading.{list_is_run, is_run}
+use Rattle.chain_moves.proofs.Leading.{list_is_run, is_run}
 use Rattle.chain_core.proofs.Ends.{over_at, broke_at, only_so, needed_more}
 use Rattle.chain_core.proofs.Listing.{listed_so}
 

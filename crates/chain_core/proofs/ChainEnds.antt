@@ -1,7 +1,7 @@
 -- What a chain's end says: its services, the state, and where the sink failed.
 use Rattle.std.proofs.Common.{◌≡◌, ℕ, zero, suc, ◌+◌, ◌-◌, ◌<◌, ◌≤◌, Bool, true, false, List, [], refl, sym, ap, ◌∙◌, subst, arith}
 use Rattle.std.specs.Prelude.{IsTrue, ◌++◌, slice_index, slice_index_or}
-use Rattle.chain_core.specs.Slot.{in_slot}
+use Rattle.chain_moves.specs.Slot.{in_slot}
 use Rattle.std.proofs.lemmas.Bool.{false≢true}
 use Rattle.board_outside.specs.Sink.{SinkView, Writes}
 use Rattle.board_outside.proofs.Writing.{then_writes, stops_writing}
@@ -13,22 +13,22 @@ use Rattle.hart_board.specs.Run.{standing}
 use Rattle.hart_board.specs.Steps.{stands_at, board_at}
 use Rattle.hart_board.specs.Event.{AreEventsFrom, with_events}
 use Rattle.hart_board.specs.Valid.{IsBoard}
-use Rattle.chain_core.specs.Words.{HasDispatcher}
+use Rattle.chain_moves.specs.Words.{HasDispatcher}
 use Rattle.chain_core.proofs.ChainLoop.{stood_first}
 use Rattle.hart_board.specs.declared.event.Event.{Event}
-use Rattle.chain_core.specs.Servicing.{Servicing, marks, innermost_level}
-use Rattle.chain_core.specs.Moves.{servicing_machine}
-use Rattle.chain_core.specs.Enter.{takes_interrupts}
-use Rattle.chain_core.specs.Start.{begun}
+use Rattle.chain_moves.specs.Servicing.{Servicing, marks, innermost_level}
+use Rattle.chain_moves.specs.Moves.{servicing_machine}
+use Rattle.chain_moves.specs.Enter.{takes_interrupts}
+use Rattle.chain_moves.specs.Start.{begun}
 use Rattle.chain_core.specs.End.{services_within}
 use Rattle.chain_core.specs.ChainRun.{is_body, read_to}
-use Rattle.chain_core.specs.Watched.{Watched, nothing_watched}
-use Rattle.chain_core.specs.Beside.{Rest, board_of}
+use Rattle.chain_moves.specs.Watched.{Watched, nothing_watched}
+use Rattle.chain_moves.specs.Beside.{Rest, board_of}
 use Rattle.chain_core.specs.Progress.{Progress}
 use Rattle.chain_core.specs.Text.{steps_text, report, Cut}
 use Rattle.chain_core.specs.Rounds.{round}
 use Rattle.chain_core.specs.Chain.{chain_end, machine_run, board_after, dead_at, is_whole, report_part, is_done, AgreesWith, AgreesAtEnd, AgreesWhereDone}
-use Rattle.chain_core.specs.declared.dispatcher.Dispatcher.{Dispatcher}
+use Rattle.chain_moves.specs.declared.dispatcher.Dispatcher.{Dispatcher}
 use Rattle.chain_core.specs.declared.ended.Ended.{Ended}
 use Rattle.chain_core.specs.declared.chain_end.ChainEnd.{ChainEnd}
 use Rattle.chain_core.specs.declared.chain_end.ChainEnd.TheVariants.{Done, BudgetSpent, SinkFailed, Broken as BrokenOff}

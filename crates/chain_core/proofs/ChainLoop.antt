@@ -10,25 +10,25 @@ use Rattle.hart_board.specs.Run.{Stand}
 use Rattle.hart_board.specs.Steps.{board_at}
 use Rattle.hart_board.specs.declared.event.Event.{Event}
 use Rattle.chain_core.specs.End.{end_at}
-use Rattle.chain_core.specs.Moves.{servicing_machine}
-use Rattle.chain_core.specs.Cost.{cost}
-use Rattle.chain_core.specs.Start.{begun}
-use Rattle.chain_core.specs.Words.{HasDispatcher}
+use Rattle.chain_moves.specs.Moves.{servicing_machine}
+use Rattle.chain_moves.specs.Cost.{cost}
+use Rattle.chain_moves.specs.Start.{begun}
+use Rattle.chain_moves.specs.Words.{HasDispatcher}
 use Rattle.chain_core.specs.ChainRun.{is_body, Read, nothing_read}
-use Rattle.chain_core.specs.Watched.{Watched, nothing_watched}
+use Rattle.chain_moves.specs.Watched.{Watched, nothing_watched}
 use Rattle.chain_core.specs.Progress.{Progress, progress_of, progress_at, HasRoom}
 use Rattle.chain_core.specs.Text.{steps_text, Cut, Tells}
 use Rattle.chain_core.specs.Rounds.{Rounded, round, steps_made}
 use Rattle.chain_core.specs.Chain.{chain_end, dead_in, dead_at, board_after, steps_part, StopsInSteps}
 use Rattle.chain_core.specs.declared.course.Course.{Course}
-use Rattle.chain_core.specs.declared.dispatcher.Dispatcher.{Dispatcher}
+use Rattle.chain_moves.specs.declared.dispatcher.Dispatcher.{Dispatcher}
 use Rattle.chain_core.specs.declared.ended.Ended.{Ended}
 use Rattle.chain_core.specs.declared.chain_end.ChainEnd.{ChainEnd}
 use Rattle.chain_core.specs.declared.round.Round.{Round}
-use Rattle.chain_core.proofs.Begun.{rest_of, start_is, start_related, begun_inputs}
+use Rattle.chain_moves.proofs.Begun.{rest_of, start_is, start_related, begun_inputs}
 use Rattle.chain_core.proofs.Bounded.{steps_within}
 use Rattle.chain_core.proofs.BodyRuns.{starts_run}
-use Rattle.chain_core.proofs.Watching.{begun_watched}
+use Rattle.chain_moves.proofs.Watching.{begun_watched}
 use Rattle.chain_core.proofs.Told.{then_told, within_more}
 use Rattle.chain_core.proofs.Standing.{goes_at, at_most, Stood, Final, AtHalt, RoundMeans, Means, made_within}
 use Rattle.chain_core.proofs.RoundMeans.{round_means}

@@ -7,21 +7,21 @@ use Rattle.device_model.specs.Meanings.{Meanings}
 use Rattle.clic_select.specs.Top.{top}
 use Rattle.clic_select.specs.declared.choice.Choice.{Choice}
 use Rattle.hart_board.specs.declared.event.Event.{Event}
-use Rattle.chain_core.specs.Servicing.{Service, Servicing}
-use Rattle.chain_core.specs.Enter.{is_enter_due}
-use Rattle.chain_core.specs.Machine.{Machine, Ends}
-use Rattle.chain_core.specs.Run.{Made, Leads}
-use Rattle.chain_core.specs.Moves.{move, claims, claims_by, servicing_machine}
-use Rattle.chain_core.specs.Cost.{is_fused, is_halfway, price, cost}
+use Rattle.chain_moves.specs.Servicing.{Service, Servicing}
+use Rattle.chain_moves.specs.Enter.{is_enter_due}
+use Rattle.chain_moves.specs.Machine.{Machine, Ends}
+use Rattle.chain_moves.specs.Run.{Made, Leads}
+use Rattle.chain_moves.specs.Moves.{move, claims, claims_by, servicing_machine}
+use Rattle.chain_moves.specs.Cost.{is_fused, is_halfway, price, cost}
 use Rattle.chain_core.specs.Counts.{Counts, counts, counted, after_leave, one_leave}
-use Rattle.chain_core.specs.Kinds.{Enters, Leaves, IsMoveBy, IsMove, EnterLeaves, LeaveLeaves, BodyLeaves}
-use Rattle.chain_core.specs.declared.broken.Broken.TheVariants.{HardVectored}
-use Rattle.chain_core.specs.declared.dispatcher.Dispatcher.TheVariants.{Looping, Returning}
-use Rattle.chain_core.specs.declared.moves.Move.{Move}
-use Rattle.chain_core.specs.declared.moves.Move.TheVariants.{Enter, Leave, Body}
-use Rattle.chain_core.proofs.OneOfThree.{is_one, running}
-use Rattle.chain_core.proofs.Nested.{passed}
-use Rattle.chain_core.proofs.Alone.{leaves_alone}
+use Rattle.chain_moves.specs.Kinds.{Enters, Leaves, IsMoveBy, IsMove, EnterLeaves, LeaveLeaves, BodyLeaves}
+use Rattle.chain_moves.specs.declared.broken.Broken.TheVariants.{HardVectored}
+use Rattle.chain_moves.specs.declared.dispatcher.Dispatcher.TheVariants.{Looping, Returning}
+use Rattle.chain_moves.specs.declared.moves.Move.{Move}
+use Rattle.chain_moves.specs.declared.moves.Move.TheVariants.{Enter, Leave, Body}
+use Rattle.chain_moves.proofs.OneOfThree.{is_one, running}
+use Rattle.chain_moves.proofs.Nested.{passed}
+use Rattle.chain_moves.proofs.Alone.{leaves_alone}
 
 -- an Enter is made after a move exactly where one is due then: what a run of the machine has, the latest move first
 abbrev pub Follows : Move → List (Made Move) → Type 0

@@ -2,17 +2,17 @@
 use Rattle.std.proofs.Common.{◌≡◌, ℕ, zero, suc, ◌+◌, ◌-◌, ◌<◌, ◌≤◌, ⊎_elim, Bool, true, false, List, [], ◌∷◌, length, refl, sym, ap, ap₂, ◌∙◌, arith}
 use Rattle.std.specs.Prelude.{nat_le}
 use Rattle.std.proofs.lemmas.Bool.{le-leb, leb-true, true≢false, cases_lt}
-use Rattle.chain_core.specs.Machine.{When, Before, Within, After, Breaks, Ends, Machine}
-use Rattle.chain_core.specs.Run.{Made, Run, On, Broke, Over, moved_on, gone_on, run_to, Leads, IsRun}
-use Rattle.chain_core.specs.Cost.{cost, price, is_halfway}
+use Rattle.chain_moves.specs.Machine.{When, Before, Within, After, Breaks, Ends, Machine}
+use Rattle.chain_moves.specs.Run.{Made, Run, On, Broke, Over, moved_on, gone_on, run_to, Leads, IsRun}
+use Rattle.chain_moves.specs.Cost.{cost, price, is_halfway}
 use Rattle.chain_core.specs.End.{end_at, end_of, end_by, steps_needed, steps_before, EndsAs}
-use Rattle.chain_core.specs.declared.broken.Broken.{Broken}
-use Rattle.chain_core.specs.declared.dispatcher.Dispatcher.{Dispatcher}
-use Rattle.chain_core.specs.declared.moves.Move.{Move}
-use Rattle.chain_core.specs.declared.moves.Move.TheVariants.{Enter, Leave, Body}
+use Rattle.chain_moves.specs.declared.broken.Broken.{Broken}
+use Rattle.chain_moves.specs.declared.dispatcher.Dispatcher.{Dispatcher}
+use Rattle.chain_moves.specs.declared.moves.Move.{Move}
+use Rattle.chain_moves.specs.declared.moves.Move.TheVariants.{Enter, Leave, Body}
 use Rattle.chain_core.specs.declared.chain_end.ChainEnd.{ChainEnd}
 use Rattle.chain_core.specs.declared.chain_end.ChainEnd.TheVariants.{Done, BudgetSpent, SinkFailed, Broken as BrokenOff}
-use Rattle.chain_core.proofs.Leading.{list_is_run, is_run}
+use Rattle.chain_moves.proofs.Leading.{list_is_run, is_run}
 
 -- each move costs a step at least
 price_some : (kind : Move) (b c : Bool) → 1 ≤ price kind b c

@@ -21,24 +21,24 @@ use Rattle.clic_trap.proofs.Quiet.{not_due}
 use Rattle.hart_board.proofs.Privileged.{top_is_choice}
 use Rattle.hart_report.specs.declared.stepped.Stepped.{Stepped}
 use Rattle.hart_report.specs.declared.stepped.Stepped.TheVariants.{Retired, Interrupted}
-use Rattle.chain_core.specs.Slot.{base}
-use Rattle.chain_core.specs.Words.{dispatch_word}
-use Rattle.chain_core.specs.Servicing.{Servicing, marks, innermost_level}
-use Rattle.chain_core.specs.Tests.{first_broken, enter_tests}
-use Rattle.chain_core.specs.Enter.{takes_interrupts, is_enter_due, pointer_by, scratch_after, new_frame, table_address, table_word, enter_registers, entered_at, entered}
-use Rattle.chain_core.specs.Nesting.{AreRising}
-use Rattle.chain_core.specs.Agreement.{framed}
-use Rattle.chain_core.specs.Beside.{Rest, board_of}
-use Rattle.chain_core.specs.Related.{Related}
+use Rattle.chain_moves.specs.Slot.{base}
+use Rattle.chain_moves.specs.Words.{dispatch_word}
+use Rattle.chain_moves.specs.Servicing.{Servicing, marks, innermost_level}
+use Rattle.chain_moves.specs.Tests.{first_broken, enter_tests}
+use Rattle.chain_moves.specs.Enter.{takes_interrupts, is_enter_due, pointer_by, scratch_after, new_frame, table_address, table_word, enter_registers, entered_at, entered}
+use Rattle.chain_moves.specs.Nesting.{AreRising}
+use Rattle.chain_moves.specs.Agreement.{framed}
+use Rattle.chain_moves.specs.Beside.{Rest, board_of}
+use Rattle.chain_moves.specs.Related.{Related}
 use Rattle.chain_core.specs.Walk.{walked}
-use Rattle.chain_core.specs.declared.mark.Mark.{Mark}
-use Rattle.chain_core.specs.declared.dispatcher.Dispatcher.{Dispatcher}
-use Rattle.chain_core.proofs.Decoding.{Fetches, fetches}
+use Rattle.chain_moves.specs.declared.mark.Mark.{Mark}
+use Rattle.chain_moves.specs.declared.dispatcher.Dispatcher.{Dispatcher}
+use Rattle.chain_moves.proofs.Decoding.{Fetches, fetches}
 use Rattle.chain_core.proofs.OneStep.{twelve}
-use Rattle.chain_core.proofs.FrameBytes.{framed_outside, framed_words}
-use Rattle.chain_core.proofs.EnterTests.{may_enter}
-use Rattle.chain_core.proofs.TableWord.{table_reads, outside_frame}
-use Rattle.chain_core.proofs.Depth.{innermost_small, table_small}
+use Rattle.chain_moves.proofs.FrameBytes.{framed_outside, framed_words}
+use Rattle.chain_moves.proofs.EnterTests.{may_enter}
+use Rattle.chain_moves.proofs.TableWord.{table_reads, outside_frame}
+use Rattle.chain_moves.proofs.Depth.{innermost_small, table_small}
 use Rattle.chain_core.proofs.EnterSteps as raw
 
 -- ---- sp and mscratch

@@ -21,11 +21,11 @@ use Rattle.hart_board.specs.State.{State, Moment}
 use Rattle.hart_board.specs.Step.{step}
 use Rattle.hart_report.specs.declared.stepped.Stepped.{Stepped}
 use Rattle.hart_report.specs.declared.stepped.Stepped.TheVariants.{Retired, Interrupted}
-use Rattle.chain_core.specs.Words.{dispatch_word}
-use Rattle.chain_core.specs.declared.dispatcher.Dispatcher.{Dispatcher}
+use Rattle.chain_moves.specs.Words.{dispatch_word}
+use Rattle.chain_moves.specs.declared.dispatcher.Dispatcher.{Dispatcher}
 use Rattle.chain_core.specs.Walk.{walked}
-use Rattle.chain_core.proofs.Decoding.{Fetches}
-use Rattle.chain_core.proofs.Decoding as spells
+use Rattle.chain_moves.proofs.Decoding.{Fetches}
+use Rattle.chain_moves.proofs.Decoding as spells
 use Rattle.chain_core.proofs.OneStep.{runs, go_on, stop, masked, enters_is, sw_is, lw_is, addi_is, beq_is, jalr_is, read_cause_is, read_epc_is, swap_is, claim_is}
 
 module _ (m : Meanings) (d : Dispatcher) (rom : List ℕ) (has : Fetches d rom) (device : List ℕ) (goes : m.halted device ≡ None) (x0 x3 x4 x5 x6 x7 x8 x9 : ℕ) (zero : x0 ≡ 0) (rest : List ℕ) (kept : List Moment) where

@@ -17,21 +17,21 @@ use Rattle.clic_trap.specs.NextInterrupt.{found, found_by}
 use Rattle.clic_trap.proofs.Quiet.{not_due}
 use Rattle.hart_board.specs.State.{State}
 use Rattle.hart_report.specs.declared.stepped.Stepped.{Stepped}
-use Rattle.chain_core.specs.Slot.{back}
-use Rattle.chain_core.specs.Servicing.{Live, Servicing, marks, innermost_level}
-use Rattle.chain_core.specs.Tests.{first_broken, enter_tests}
-use Rattle.chain_core.specs.Enter.{is_enter_due, pointer_by, scratch_after, new_frame, table_address, table_word, enter_registers, entered}
-use Rattle.chain_core.specs.Leave.{leave_registers, left}
-use Rattle.chain_core.specs.Agreement.{place_of, Frame}
-use Rattle.chain_core.specs.Beside.{Rest, board_of}
-use Rattle.chain_core.specs.Related.{Related}
+use Rattle.chain_moves.specs.Slot.{back}
+use Rattle.chain_moves.specs.Servicing.{Live, Servicing, marks, innermost_level}
+use Rattle.chain_moves.specs.Tests.{first_broken, enter_tests}
+use Rattle.chain_moves.specs.Enter.{is_enter_due, pointer_by, scratch_after, new_frame, table_address, table_word, enter_registers, entered}
+use Rattle.chain_moves.specs.Leave.{leave_registers, left}
+use Rattle.chain_moves.specs.Agreement.{place_of, Frame}
+use Rattle.chain_moves.specs.Beside.{Rest, board_of}
+use Rattle.chain_moves.specs.Related.{Related}
 use Rattle.chain_core.specs.Walk.{walked}
-use Rattle.chain_core.specs.declared.dispatcher.Dispatcher.TheVariants.{Looping}
-use Rattle.chain_core.proofs.Decoding.{Fetches, fetches}
+use Rattle.chain_moves.specs.declared.dispatcher.Dispatcher.TheVariants.{Looping}
+use Rattle.chain_moves.proofs.Decoding.{Fetches, fetches}
 use Rattle.chain_core.proofs.OneStep.{twelve}
-use Rattle.chain_core.proofs.EnterTests.{may_enter}
-use Rattle.chain_core.proofs.TableWord.{table_reads}
-use Rattle.chain_core.proofs.Depth.{table_small}
+use Rattle.chain_moves.proofs.EnterTests.{may_enter}
+use Rattle.chain_moves.proofs.TableWord.{table_reads}
+use Rattle.chain_moves.proofs.Depth.{table_small}
 use Rattle.chain_core.proofs.EnterRuns.{retired}
 use Rattle.chain_core.proofs.LeaveRuns.{left_form, left_is, cause_of, arrived, arrives, sp_is, calm_of}
 use Rattle.chain_core.proofs.LeaveSteps as raw

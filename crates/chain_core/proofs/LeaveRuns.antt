@@ -16,23 +16,23 @@ use Rattle.clic_trap.specs.Due.{is_above, has_top_above}
 use Rattle.clic_trap.specs.NextInterrupt.{found, found_by}
 use Rattle.hart_board.specs.State.{State}
 use Rattle.hart_report.specs.declared.stepped.Stepped.{Stepped}
-use Rattle.chain_core.specs.Slot.{back}
-use Rattle.chain_core.specs.Servicing.{Live, Servicing, marks, innermost_level}
-use Rattle.chain_core.specs.Tests.{are_kept, is_free}
-use Rattle.chain_core.specs.Enter.{takes_interrupts, is_enter_due, pointer_by, scratch_after}
-use Rattle.chain_core.specs.Leave.{leave_registers, raised_pointer, left}
-use Rattle.chain_core.specs.Cost.{is_fused}
-use Rattle.chain_core.specs.Judge.{claims_above}
-use Rattle.chain_core.specs.Nesting.{AreRising}
-use Rattle.chain_core.specs.Agreement.{place_of, Frame}
-use Rattle.chain_core.specs.Beside.{Rest, board_of}
-use Rattle.chain_core.specs.Related.{Related, Ons}
+use Rattle.chain_moves.specs.Slot.{back}
+use Rattle.chain_moves.specs.Servicing.{Live, Servicing, marks, innermost_level}
+use Rattle.chain_moves.specs.Tests.{are_kept, is_free}
+use Rattle.chain_moves.specs.Enter.{takes_interrupts, is_enter_due, pointer_by, scratch_after}
+use Rattle.chain_moves.specs.Leave.{leave_registers, raised_pointer, left}
+use Rattle.chain_moves.specs.Cost.{is_fused}
+use Rattle.chain_moves.specs.Judge.{claims_above}
+use Rattle.chain_moves.specs.Nesting.{AreRising}
+use Rattle.chain_moves.specs.Agreement.{place_of, Frame}
+use Rattle.chain_moves.specs.Beside.{Rest, board_of}
+use Rattle.chain_moves.specs.Related.{Related, Ons}
 use Rattle.chain_core.specs.Walk.{walked}
-use Rattle.chain_core.specs.declared.mark.Mark.{Mark}
-use Rattle.chain_core.specs.declared.dispatcher.Dispatcher.{Dispatcher}
-use Rattle.chain_core.specs.declared.dispatcher.Dispatcher.TheVariants.{Looping, Returning}
-use Rattle.chain_core.specs.declared.moves.Move.TheVariants.{Leave}
-use Rattle.chain_core.proofs.Decoding.{Fetches, fetches}
+use Rattle.chain_moves.specs.declared.mark.Mark.{Mark}
+use Rattle.chain_moves.specs.declared.dispatcher.Dispatcher.{Dispatcher}
+use Rattle.chain_moves.specs.declared.dispatcher.Dispatcher.TheVariants.{Looping, Returning}
+use Rattle.chain_moves.specs.declared.moves.Move.TheVariants.{Leave}
+use Rattle.chain_moves.proofs.Decoding.{Fetches, fetches}
 use Rattle.chain_core.proofs.OneStep.{twelve}
 use Rattle.chain_core.proofs.EnterRuns.{exchange, retired}
 use Rattle.chain_core.proofs.LeaveSteps as raw

@@ -2,11 +2,11 @@
 use Rattle.std.proofs.Common.{◌≡◌, ℕ, zero, suc, ◌<◌, ◌≤◌, ◌⊎◌, inl, inr, ⊎_elim, Bool, true, false, List, ◌∷◌, length, refl, sym, ap, ◌∙◌, subst, arith}
 use Rattle.std.specs.Prelude.{nat_le}
 use Rattle.std.proofs.lemmas.Bool.{le-leb, leb-true, true≢false, cases_lt}
-use Rattle.chain_core.specs.Machine.{Moved, Makes, Breaks, Ends, Machine}
-use Rattle.chain_core.specs.Run.{Made, Run, On, Broke, Over, moved_on, gone_on, run_to, Leads}
-use Rattle.chain_core.specs.Cost.{cost}
+use Rattle.chain_moves.specs.Machine.{Moved, Makes, Breaks, Ends, Machine}
+use Rattle.chain_moves.specs.Run.{Made, Run, On, Broke, Over, moved_on, gone_on, run_to, Leads}
+use Rattle.chain_moves.specs.Cost.{cost}
 use Rattle.chain_core.specs.End.{services_by, services_of, services_to, services_within, IsListed}
-use Rattle.chain_core.specs.declared.dispatcher.Dispatcher.{Dispatcher}
+use Rattle.chain_moves.specs.declared.dispatcher.Dispatcher.{Dispatcher}
 use Rattle.chain_core.proofs.Ends.{moves_below}
 
 module _ {K S E : Type 0} (x : Machine K S E) (d : Dispatcher) (bound : ℕ) (s : S) where

@@ -9,19 +9,19 @@ use Rattle.hart_board.specs.Run.{Stand}
 use Rattle.hart_board.specs.Steps.{told_to, GoesOnBefore}
 use Rattle.hart_board.specs.declared.event.Event.{Event}
 use Rattle.hart_report.specs.declared.stepped.Stepped.{Stepped}
-use Rattle.chain_core.specs.Slot.{back}
-use Rattle.chain_core.specs.Servicing.{Live, Servicing, marks, innermost_level}
-use Rattle.chain_core.specs.Enter.{is_enter_due, table_address, entered}
-use Rattle.chain_core.specs.Leave.{left}
-use Rattle.chain_core.specs.Cost.{is_fused}
-use Rattle.chain_core.specs.Judge.{claims_above}
-use Rattle.chain_core.specs.Beside.{Rest, board_of}
-use Rattle.chain_core.specs.Related.{Related}
+use Rattle.chain_moves.specs.Slot.{back}
+use Rattle.chain_moves.specs.Servicing.{Live, Servicing, marks, innermost_level}
+use Rattle.chain_moves.specs.Enter.{is_enter_due, table_address, entered}
+use Rattle.chain_moves.specs.Leave.{left}
+use Rattle.chain_moves.specs.Cost.{is_fused}
+use Rattle.chain_moves.specs.Judge.{claims_above}
+use Rattle.chain_moves.specs.Beside.{Rest, board_of}
+use Rattle.chain_moves.specs.Related.{Related}
 use Rattle.chain_core.specs.Walk.{Walk, walked}
 use Rattle.chain_core.specs.ChainRun.{is_body, chained_at, Read, read_to}
-use Rattle.chain_core.specs.declared.dispatcher.Dispatcher.{Dispatcher}
-use Rattle.chain_core.specs.declared.dispatcher.Dispatcher.TheVariants.{Looping}
-use Rattle.chain_core.specs.declared.moves.Move.TheVariants.{Leave}
+use Rattle.chain_moves.specs.declared.dispatcher.Dispatcher.{Dispatcher}
+use Rattle.chain_moves.specs.declared.dispatcher.Dispatcher.TheVariants.{Looping}
+use Rattle.chain_moves.specs.declared.moves.Move.TheVariants.{Leave}
 use Rattle.chain_core.proofs.EnterRuns.{rest_entered, retired, before_call, enter_told, enter_runs}
 use Rattle.chain_core.proofs.LeaveRuns.{rest_left, after_back, leave_told, leave_runs}
 use Rattle.chain_core.proofs.FusedRuns.{Untested, mid, rest_fused, five_told, two_told, five_runs, two_runs}

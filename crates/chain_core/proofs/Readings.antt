@@ -8,7 +8,7 @@ use Rattle.hart_board.specs.Run.{Stand}
 use Rattle.hart_board.specs.declared.event.Event.{Event}
 use Rattle.hart_report.specs.declared.stepped.Stepped.{Stepped}
 use Rattle.hart_report.specs.declared.stepped.Stepped.TheVariants.{Retired, Interrupted, Raised, Halted, VectorFault}
-use Rattle.chain_core.specs.Slot.{call, back}
+use Rattle.chain_moves.specs.Slot.{call, back}
 use Rattle.chain_core.specs.Walk.{Walk, walked}
 use Rattle.chain_core.specs.ChainRun.{chained_at, Read, read_at, read_by, read_services, read_to}
 use Rattle.chain_core.proofs.Walks.{is_dispatch, are_dispatch, stands_next}

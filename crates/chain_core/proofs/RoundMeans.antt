@@ -8,26 +8,26 @@ use Rattle.hart_board.proofs.Privileged.{top_is_choice}
 use Rattle.hart_memory.specs.declared.address_map.TheConstants.{RAM_BASE, BANK_LEN}
 use Rattle.hart_board.specs.State.{State}
 use Rattle.hart_board.specs.declared.event.Event.{Event}
-use Rattle.chain_core.specs.Slot.{frame_size}
-use Rattle.chain_core.specs.Servicing.{Live, Servicing, marks, innermost_level}
-use Rattle.chain_core.specs.Moves.{move}
-use Rattle.chain_core.specs.Enter.{takes_interrupts, is_enter_due}
-use Rattle.chain_core.specs.Leave.{left}
-use Rattle.chain_core.specs.Watched.{Watched, watched_of}
-use Rattle.chain_core.specs.Judge.{judge_turn}
-use Rattle.chain_core.specs.Beside.{Rest, board_of}
+use Rattle.chain_moves.specs.Slot.{frame_size}
+use Rattle.chain_moves.specs.Servicing.{Live, Servicing, marks, innermost_level}
+use Rattle.chain_moves.specs.Moves.{move}
+use Rattle.chain_moves.specs.Enter.{takes_interrupts, is_enter_due}
+use Rattle.chain_moves.specs.Leave.{left}
+use Rattle.chain_moves.specs.Watched.{Watched, watched_of}
+use Rattle.chain_moves.specs.Judge.{judge_turn}
+use Rattle.chain_moves.specs.Beside.{Rest, board_of}
 use Rattle.chain_core.specs.Progress.{Progress}
 use Rattle.chain_core.specs.Rounds.{round_due, round_unless_halted, round}
-use Rattle.chain_core.specs.Cost.{leave_cost}
-use Rattle.chain_core.specs.Start.{begun}
-use Rattle.chain_core.specs.declared.dispatcher.Dispatcher.{Dispatcher}
-use Rattle.chain_core.specs.declared.turn.Turn.{Turn}
-use Rattle.chain_core.specs.declared.turn.Turn.TheVariants.{Enter, Leave, Fuse, Body}
-use Rattle.chain_core.specs.declared.entry.Entry.TheVariants.{Admitted}
-use Rattle.chain_core.proofs.Nested.{depth_below}
-use Rattle.chain_core.proofs.Depth.{innermost_small}
-use Rattle.chain_core.proofs.Enters.{passes}
-use Rattle.chain_core.proofs.Turns.{TurnMeans, turn_means}
+use Rattle.chain_moves.specs.Cost.{leave_cost}
+use Rattle.chain_moves.specs.Start.{begun}
+use Rattle.chain_moves.specs.declared.dispatcher.Dispatcher.{Dispatcher}
+use Rattle.chain_moves.specs.declared.turn.Turn.{Turn}
+use Rattle.chain_moves.specs.declared.turn.Turn.TheVariants.{Enter, Leave, Fuse, Body}
+use Rattle.chain_moves.specs.declared.entry.Entry.TheVariants.{Admitted}
+use Rattle.chain_moves.proofs.Nested.{depth_below}
+use Rattle.chain_moves.proofs.Depth.{innermost_small}
+use Rattle.chain_moves.proofs.Enters.{passes}
+use Rattle.chain_moves.proofs.Turns.{TurnMeans, turn_means}
 use Rattle.chain_core.proofs.Standing.{StoodFrom, MeansFrom, Stood, Means, from_start}
 use Rattle.chain_core.proofs.RoundsBegin.{board_is, entry_round}
 use Rattle.chain_core.proofs.RoundsReturn.{leaving, fuse_round}

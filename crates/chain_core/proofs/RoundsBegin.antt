@@ -10,30 +10,30 @@ use Rattle.hart_board.specs.State.{State}
 use Rattle.hart_board.specs.Run.{Stand}
 use Rattle.hart_board.specs.Event.{AreEventsFrom}
 use Rattle.hart_board.specs.declared.event.Event.{Event}
-use Rattle.chain_core.specs.Servicing.{Servicing, marks}
-use Rattle.chain_core.specs.Machine.{Before, Moved, Makes, Breaks}
-use Rattle.chain_core.specs.Run.{Made}
-use Rattle.chain_core.specs.Moves.{move, claims, servicing_machine}
-use Rattle.chain_core.specs.Cost.{is_fused, is_halfway, price, cost, enter_cost}
-use Rattle.chain_core.specs.Enter.{is_enter_due, new_frame, entered}
+use Rattle.chain_moves.specs.Servicing.{Servicing, marks}
+use Rattle.chain_moves.specs.Machine.{Before, Moved, Makes, Breaks}
+use Rattle.chain_moves.specs.Run.{Made}
+use Rattle.chain_moves.specs.Moves.{move, claims, servicing_machine}
+use Rattle.chain_moves.specs.Cost.{is_fused, is_halfway, price, cost, enter_cost}
+use Rattle.chain_moves.specs.Enter.{is_enter_due, new_frame, entered}
 use Rattle.chain_core.specs.ChainRun.{Read, read_to}
-use Rattle.chain_core.specs.Watched.{Watched, with_service}
-use Rattle.chain_core.specs.Beside.{Rest, board_of}
+use Rattle.chain_moves.specs.Watched.{Watched, with_service}
+use Rattle.chain_moves.specs.Beside.{Rest, board_of}
 use Rattle.chain_core.specs.Progress.{Progress, goes, progress_at}
 use Rattle.chain_core.specs.Rounds.{mark_at, watched_after, round_enter, round_entry}
-use Rattle.chain_core.specs.declared.broken.Broken.{Broken}
-use Rattle.chain_core.specs.declared.dispatcher.Dispatcher.{Dispatcher}
-use Rattle.chain_core.specs.declared.dispatcher.Dispatcher.TheVariants.{Looping, Returning}
-use Rattle.chain_core.specs.declared.moves.Move.{Move}
-use Rattle.chain_core.specs.declared.moves.Move.TheVariants.{Enter, Body}
-use Rattle.chain_core.specs.declared.entry.Entry.{Entry}
-use Rattle.chain_core.specs.declared.entry.Entry.TheVariants.{Refused, Admitted}
+use Rattle.chain_moves.specs.declared.broken.Broken.{Broken}
+use Rattle.chain_moves.specs.declared.dispatcher.Dispatcher.{Dispatcher}
+use Rattle.chain_moves.specs.declared.dispatcher.Dispatcher.TheVariants.{Looping, Returning}
+use Rattle.chain_moves.specs.declared.moves.Move.{Move}
+use Rattle.chain_moves.specs.declared.moves.Move.TheVariants.{Enter, Body}
+use Rattle.chain_moves.specs.declared.entry.Entry.{Entry}
+use Rattle.chain_moves.specs.declared.entry.Entry.TheVariants.{Refused, Admitted}
 use Rattle.chain_core.proofs.Bounded.{Late}
-use Rattle.chain_core.proofs.Enters.{entered_framed, entered_inputs, entered_bodies}
+use Rattle.chain_moves.proofs.Enters.{entered_framed, entered_inputs, entered_bodies}
 use Rattle.chain_core.proofs.EnterRuns.{rest_entered, saved_cause, enter_runs}
 use Rattle.chain_core.proofs.MoveRuns.{with_service as read_service, enter_in_run}
-use Rattle.chain_core.proofs.Turns.{EntryMeans}
-use Rattle.chain_core.proofs.Watching.{new_mark, entered_watched}
+use Rattle.chain_moves.proofs.Turns.{EntryMeans}
+use Rattle.chain_moves.proofs.Watching.{new_mark, entered_watched}
 use Rattle.chain_core.proofs.Standing.{goes_at, goes_to, StoodFrom, BrokeFrom, SpentFrom, MeansFrom}
 
 -- ---- what a move costs

@@ -10,31 +10,31 @@ use Rattle.hart_board.specs.Step.{Turn, step, tried}
 use Rattle.hart_board.specs.Run.{Stand}
 use Rattle.hart_board.specs.Event.{AreEventsFrom}
 use Rattle.hart_board.specs.declared.event.Event.{Event}
-use Rattle.chain_core.specs.Servicing.{Live, Servicing, marks, is_foreground}
-use Rattle.chain_core.specs.Bytes.{revived_at}
-use Rattle.chain_core.specs.Tests.{is_lost}
-use Rattle.chain_core.specs.Machine.{Within, After, Breaks}
-use Rattle.chain_core.specs.Run.{Made}
-use Rattle.chain_core.specs.Moves.{move, move_unless_halted, halted_with, claims, servicing_machine}
-use Rattle.chain_core.specs.Body.{body}
-use Rattle.chain_core.specs.Cost.{body_cost}
-use Rattle.chain_core.specs.Enter.{is_enter_due}
+use Rattle.chain_moves.specs.Servicing.{Live, Servicing, marks, is_foreground}
+use Rattle.chain_moves.specs.Bytes.{revived_at}
+use Rattle.chain_moves.specs.Tests.{is_lost}
+use Rattle.chain_moves.specs.Machine.{Within, After, Breaks}
+use Rattle.chain_moves.specs.Run.{Made}
+use Rattle.chain_moves.specs.Moves.{move, move_unless_halted, halted_with, claims, servicing_machine}
+use Rattle.chain_moves.specs.Body.{body}
+use Rattle.chain_moves.specs.Cost.{body_cost}
+use Rattle.chain_moves.specs.Enter.{is_enter_due}
 use Rattle.chain_core.specs.ChainRun.{Read, read_to}
-use Rattle.chain_core.specs.Watched.{Watched, watched_of}
-use Rattle.chain_core.specs.Judge.{judge_body}
-use Rattle.chain_core.specs.Beside.{Rest, board_of}
+use Rattle.chain_moves.specs.Watched.{Watched, watched_of}
+use Rattle.chain_moves.specs.Judge.{judge_body}
+use Rattle.chain_moves.specs.Beside.{Rest, board_of}
 use Rattle.chain_core.specs.Progress.{Progress, gone_by, goes, progress_at}
 use Rattle.chain_core.specs.Rounds.{round_retired, round_turn, round_body, round_verdict, halted_round, round_halted}
-use Rattle.chain_core.specs.declared.broken.Broken.TheVariants.{RegisterLost, Exception, HaltInHandler}
-use Rattle.chain_core.specs.declared.dispatcher.Dispatcher.{Dispatcher}
-use Rattle.chain_core.specs.declared.moves.Move.{Move}
-use Rattle.chain_core.specs.declared.moves.Move.TheVariants.{Body}
-use Rattle.chain_core.specs.declared.verdict.Verdict.{Verdict}
-use Rattle.chain_core.specs.declared.verdict.Verdict.TheVariants.{Refused, Plain, Reviving}
+use Rattle.chain_moves.specs.declared.broken.Broken.TheVariants.{RegisterLost, Exception, HaltInHandler}
+use Rattle.chain_moves.specs.declared.dispatcher.Dispatcher.{Dispatcher}
+use Rattle.chain_moves.specs.declared.moves.Move.{Move}
+use Rattle.chain_moves.specs.declared.moves.Move.TheVariants.{Body}
+use Rattle.chain_moves.specs.declared.verdict.Verdict.{Verdict}
+use Rattle.chain_moves.specs.declared.verdict.Verdict.TheVariants.{Refused, Plain, Reviving}
 use Rattle.chain_core.proofs.Bounded.{Late}
-use Rattle.chain_core.proofs.Bodies.{retires, Raises, Loses, Done as BodyDone, Tried, BodyMeans, body_turns}
+use Rattle.chain_moves.proofs.Bodies.{retires, Raises, Loses, Done as BodyDone, Tried, BodyMeans, body_turns}
 use Rattle.chain_core.proofs.BodyRuns.{body_in_run}
-use Rattle.chain_core.proofs.Counted.{body_watched}
+use Rattle.chain_moves.proofs.Counted.{body_watched}
 use Rattle.chain_core.proofs.Told.{goes_one, gone_turn}
 use Rattle.chain_core.proofs.Standing.{goes_at, StoodFrom, SpentFrom, MeansFrom}
 use Rattle.chain_core.proofs.RoundsBegin.{body_whole, next_cost, board_is, bodies_are, listed_are, refused, spent_now}

@@ -10,38 +10,38 @@ use Rattle.hart_board.specs.State.{Outside, State}
 use Rattle.hart_board.specs.Run.{Stand}
 use Rattle.hart_board.specs.Event.{AreEventsFrom}
 use Rattle.hart_board.specs.declared.event.Event.{Event}
-use Rattle.chain_core.specs.Servicing.{Live, Servicing, marks, innermost_level}
-use Rattle.chain_core.specs.Machine.{Before, Makes, Breaks}
-use Rattle.chain_core.specs.Run.{Made, Leads}
-use Rattle.chain_core.specs.Moves.{move, claims, servicing_machine}
-use Rattle.chain_core.specs.Cost.{is_fused, price, cost, leave_cost, fused_leave_cost}
-use Rattle.chain_core.specs.Enter.{new_frame, table_address, entered}
-use Rattle.chain_core.specs.Leave.{left}
-use Rattle.chain_core.specs.Judge.{claims_above}
+use Rattle.chain_moves.specs.Servicing.{Live, Servicing, marks, innermost_level}
+use Rattle.chain_moves.specs.Machine.{Before, Makes, Breaks}
+use Rattle.chain_moves.specs.Run.{Made, Leads}
+use Rattle.chain_moves.specs.Moves.{move, claims, servicing_machine}
+use Rattle.chain_moves.specs.Cost.{is_fused, price, cost, leave_cost, fused_leave_cost}
+use Rattle.chain_moves.specs.Enter.{new_frame, table_address, entered}
+use Rattle.chain_moves.specs.Leave.{left}
+use Rattle.chain_moves.specs.Judge.{claims_above}
 use Rattle.chain_core.specs.ChainRun.{chained_at, Read, read_to}
 use Rattle.chain_core.specs.Walk.{walked}
-use Rattle.chain_core.specs.Watched.{Watched, with_service, without_service}
-use Rattle.chain_core.specs.Beside.{Rest, board_of}
-use Rattle.chain_core.specs.Related.{Related}
+use Rattle.chain_moves.specs.Watched.{Watched, with_service, without_service}
+use Rattle.chain_moves.specs.Beside.{Rest, board_of}
+use Rattle.chain_moves.specs.Related.{Related}
 use Rattle.chain_core.specs.Progress.{Progress, goes, progress_at}
 use Rattle.chain_core.specs.Rounds.{watched_after, fused_cost, round_leave, round_parted, round_fused, round_fuse}
-use Rattle.chain_core.specs.declared.broken.Broken.{Broken}
-use Rattle.chain_core.specs.declared.dispatcher.Dispatcher.{Dispatcher}
-use Rattle.chain_core.specs.declared.dispatcher.Dispatcher.TheVariants.{Looping, Returning}
-use Rattle.chain_core.specs.declared.moves.Move.{Move}
-use Rattle.chain_core.specs.declared.moves.Move.TheVariants.{Enter, Leave}
-use Rattle.chain_core.specs.declared.entry.Entry.{Entry}
-use Rattle.chain_core.specs.declared.entry.Entry.TheVariants.{Refused, Admitted}
+use Rattle.chain_moves.specs.declared.broken.Broken.{Broken}
+use Rattle.chain_moves.specs.declared.dispatcher.Dispatcher.{Dispatcher}
+use Rattle.chain_moves.specs.declared.dispatcher.Dispatcher.TheVariants.{Looping, Returning}
+use Rattle.chain_moves.specs.declared.moves.Move.{Move}
+use Rattle.chain_moves.specs.declared.moves.Move.TheVariants.{Enter, Leave}
+use Rattle.chain_moves.specs.declared.entry.Entry.{Entry}
+use Rattle.chain_moves.specs.declared.entry.Entry.TheVariants.{Refused, Admitted}
 use Rattle.chain_core.proofs.Bounded.{Late}
-use Rattle.chain_core.proofs.Leaves.{left_live, left_unmoved, left_related}
-use Rattle.chain_core.proofs.Enters.{IsUntested, passes, entered_inputs, entered_bodies}
-use Rattle.chain_core.proofs.Fused.{claims_after, fused_related}
+use Rattle.chain_moves.proofs.Leaves.{left_live, left_unmoved, left_related}
+use Rattle.chain_moves.proofs.Enters.{IsUntested, passes, entered_inputs, entered_bodies}
+use Rattle.chain_moves.proofs.Fused.{claims_after, fused_related}
 use Rattle.chain_core.proofs.LeaveRuns.{rest_left}
 use Rattle.chain_core.proofs.FusedRuns.{mid, rest_fused, five_told, two_told}
 use Rattle.chain_core.proofs.Readings.{with_return}
 use Rattle.chain_core.proofs.MoveRuns.{InRun, with_service as read_service, leave_in_run, five_in_run, mid_in_run, two_in_run}
-use Rattle.chain_core.proofs.Turns.{Leaves, Fuses, EntryMeans}
-use Rattle.chain_core.proofs.Watching.{left_watched, fused_watched}
+use Rattle.chain_moves.proofs.Turns.{Leaves, Fuses, EntryMeans}
+use Rattle.chain_moves.proofs.Watching.{left_watched, fused_watched}
 use Rattle.chain_core.proofs.Standing.{goes_at, goes_to, StoodFrom, SpentFrom, MeansFrom}
 use Rattle.chain_core.proofs.RoundsBegin.{enter_whole, next_cost, half_cost, mark_is, read_entered, spent_now, still_listed}
 

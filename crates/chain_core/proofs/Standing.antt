@@ -9,23 +9,23 @@ use Rattle.hart_board.specs.Event.{AreEventsFrom}
 use Rattle.hart_board.specs.declared.event.Event.{Event}
 use Rattle.hart_report.specs.declared.stepped.Stepped.{Stepped}
 use Rattle.hart_report.specs.declared.stepped.Stepped.TheVariants.{Retired, Interrupted, Raised, Halted, VectorFault}
-use Rattle.chain_core.specs.Slot.{call, back}
-use Rattle.chain_core.specs.Servicing.{Servicing}
-use Rattle.chain_core.specs.Run.{Made, Over, run_to, Leads}
-use Rattle.chain_core.specs.Machine.{When, Breaks, Ends as MachineEnds}
-use Rattle.chain_core.specs.Moves.{move, claims, servicing_machine}
-use Rattle.chain_core.specs.Cost.{cost, is_halfway}
+use Rattle.chain_moves.specs.Slot.{call, back}
+use Rattle.chain_moves.specs.Servicing.{Servicing}
+use Rattle.chain_moves.specs.Run.{Made, Over, run_to, Leads}
+use Rattle.chain_moves.specs.Machine.{When, Breaks, Ends as MachineEnds}
+use Rattle.chain_moves.specs.Moves.{move, claims, servicing_machine}
+use Rattle.chain_moves.specs.Cost.{cost, is_halfway}
 use Rattle.chain_core.specs.End.{steps_before, steps_needed, end_at, services_within}
-use Rattle.chain_core.specs.Start.{begun}
+use Rattle.chain_moves.specs.Start.{begun}
 use Rattle.chain_core.specs.ChainRun.{is_body, chained_at, Read, read_at, read_by, read_to}
-use Rattle.chain_core.specs.Watched.{Watched, watched_of}
-use Rattle.chain_core.specs.Beside.{Rest, board_of}
-use Rattle.chain_core.specs.Related.{Related}
+use Rattle.chain_moves.specs.Watched.{Watched, watched_of}
+use Rattle.chain_moves.specs.Beside.{Rest, board_of}
+use Rattle.chain_moves.specs.Related.{Related}
 use Rattle.chain_core.specs.Progress.{Progress, counted, counted_by, gone, goes, progress_at}
 use Rattle.chain_core.specs.Rounds.{Rounded, steps_made}
-use Rattle.chain_core.specs.declared.dispatcher.Dispatcher.{Dispatcher}
-use Rattle.chain_core.specs.declared.broken.Broken.{Broken}
-use Rattle.chain_core.specs.declared.moves.Move.{Move}
+use Rattle.chain_moves.specs.declared.dispatcher.Dispatcher.{Dispatcher}
+use Rattle.chain_moves.specs.declared.broken.Broken.{Broken}
+use Rattle.chain_moves.specs.declared.moves.Move.{Move}
 use Rattle.chain_core.specs.declared.chain_end.ChainEnd.{ChainEnd}
 use Rattle.chain_core.specs.declared.chain_end.ChainEnd.TheVariants.{Done, BudgetSpent, Broken as BrokenOff}
 use Rattle.chain_core.specs.declared.round.Round.{Round}

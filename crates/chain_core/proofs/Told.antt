@@ -18,22 +18,22 @@ use Rattle.hart_board.proofs.Still.{tried_other}
 use Rattle.hart_board.proofs.Shapes.{step_has}
 use Rattle.chain_core.specs.Progress.{Progress, progress_of, counted_by, gone_by, gone, goes}
 use Rattle.chain_core.specs.Text.{turn_text, next_text, steps_text, Tells}
-use Rattle.chain_core.specs.Servicing.{is_foreground}
-use Rattle.chain_core.specs.Bytes.{marked, revived_at}
-use Rattle.chain_core.specs.Watched.{Watched}
+use Rattle.chain_moves.specs.Servicing.{is_foreground}
+use Rattle.chain_moves.specs.Bytes.{marked, revived_at}
+use Rattle.chain_moves.specs.Watched.{Watched}
 use Rattle.chain_core.specs.Rounds.{raised_code, tried_steps, halted_round, round_body, round_verdict, round_due, round_unless_halted, round, steps_made}
-use Rattle.chain_core.specs.Cost.{body_cost}
-use Rattle.chain_core.specs.Judge.{judge_turn}
-use Rattle.chain_core.specs.Ready.{verdict_by, revived_by}
+use Rattle.chain_moves.specs.Cost.{body_cost}
+use Rattle.chain_moves.specs.Judge.{judge_turn}
+use Rattle.chain_moves.specs.Ready.{verdict_by, revived_by}
 use Rattle.chain_core.specs.declared.course.Course.{Course}
-use Rattle.chain_core.specs.declared.turn.Turn.TheVariants.{Body}
-use Rattle.chain_core.specs.declared.verdict.Verdict.{Verdict}
+use Rattle.chain_moves.specs.declared.turn.Turn.TheVariants.{Body}
+use Rattle.chain_moves.specs.declared.verdict.Verdict.{Verdict}
 use Rattle.chain_core.specs.ChainRun.{is_body}
-use Rattle.chain_core.specs.Slot.{in_slot, call, back}
+use Rattle.chain_moves.specs.Slot.{in_slot, call, back}
 use Rattle.hart_exec.specs.declared.effect.Effect.{Effect}
 use Rattle.hart_exec.specs.declared.effect.Effect.TheVariants.{Go, Load, Store, System}
 use Rattle.hart_board.specs.Run.{Stand}
-use Rattle.chain_core.specs.declared.dispatcher.Dispatcher.{Dispatcher}
+use Rattle.chain_moves.specs.declared.dispatcher.Dispatcher.{Dispatcher}
 use Rattle.hart_memory.specs.Place.{place}
 
 module _ (m : Meanings) (es : List Event) where

@@ -10,7 +10,7 @@ use Rattle.hart_board.specs.Steps.{stands_at, board_at, told_at, told_to, goes_o
 use Rattle.hart_board.specs.declared.event.Event.{Event}
 use Rattle.hart_report.specs.declared.stepped.Stepped.{Stepped}
 use Rattle.hart_report.specs.declared.stepped.Stepped.TheVariants.{Retired, Interrupted, Raised, Halted, VectorFault}
-use Rattle.chain_core.specs.Slot.{in_slot}
+use Rattle.chain_moves.specs.Slot.{in_slot}
 use Rattle.chain_core.specs.Walk.{Walk, walked}
 use Rattle.chain_core.specs.ChainRun.{is_body, chained_at}
 

@@ -5,19 +5,19 @@ use Rattle.hart_board.specs.State.{State}
 use Rattle.hart_board.specs.Valid.{IsBoard}
 use Rattle.hart_board.specs.Event.{AreEventsFrom}
 use Rattle.hart_board.specs.declared.event.Event.{Event}
-use Rattle.chain_core.specs.Slot.{in_slot}
-use Rattle.chain_core.specs.Servicing.{Servicing}
-use Rattle.chain_core.specs.Machine.{Ends}
-use Rattle.chain_core.specs.Run.{Made, Leads}
-use Rattle.chain_core.specs.Moves.{move, servicing_machine}
+use Rattle.chain_moves.specs.Slot.{in_slot}
+use Rattle.chain_moves.specs.Servicing.{Servicing}
+use Rattle.chain_moves.specs.Machine.{Ends}
+use Rattle.chain_moves.specs.Run.{Made, Leads}
+use Rattle.chain_moves.specs.Moves.{move, servicing_machine}
 use Rattle.chain_core.specs.Counts.{counts}
-use Rattle.chain_core.specs.Start.{with_slot, begun}
+use Rattle.chain_moves.specs.Start.{with_slot, begun}
 use Rattle.chain_core.specs.ChainRun.{read_to}
-use Rattle.chain_core.specs.Words.{HasDispatcher}
+use Rattle.chain_moves.specs.Words.{HasDispatcher}
 use Rattle.chain_core.specs.Chain.{board_after}
-use Rattle.chain_core.specs.declared.dispatcher.Dispatcher.{Dispatcher}
-use Rattle.chain_core.specs.declared.dispatcher.Dispatcher.TheVariants.{Looping, Returning}
-use Rattle.chain_core.specs.declared.moves.Move.{Move}
+use Rattle.chain_moves.specs.declared.dispatcher.Dispatcher.{Dispatcher}
+use Rattle.chain_moves.specs.declared.dispatcher.Dispatcher.TheVariants.{Looping, Returning}
+use Rattle.chain_moves.specs.declared.moves.Move.{Move}
 
 -- the board with other bytes in the slot
 abbrev pub with_slot_bytes : List ℕ → State → State

@@ -6,17 +6,17 @@ use Rattle.hart_report.specs.Text.{StopsAfter}
 use Rattle.hart_board.specs.State.{State}
 use Rattle.hart_board.specs.Steps.{board_at}
 use Rattle.hart_board.specs.declared.event.Event.{Event}
-use Rattle.chain_core.specs.Slot.{in_slot}
-use Rattle.chain_core.specs.Servicing.{Servicing}
-use Rattle.chain_core.specs.Run.{Run, On, Broke, Over, run_to}
-use Rattle.chain_core.specs.Moves.{servicing_machine}
-use Rattle.chain_core.specs.Start.{begun}
+use Rattle.chain_moves.specs.Slot.{in_slot}
+use Rattle.chain_moves.specs.Servicing.{Servicing}
+use Rattle.chain_moves.specs.Run.{Run, On, Broke, Over, run_to}
+use Rattle.chain_moves.specs.Moves.{servicing_machine}
+use Rattle.chain_moves.specs.Start.{begun}
 use Rattle.chain_core.specs.ChainRun.{is_body}
 use Rattle.chain_core.specs.End.{Ended, end_at}
 use Rattle.chain_core.specs.Progress.{progress_at}
 use Rattle.chain_core.specs.Text.{steps_text, report, Cut}
-use Rattle.chain_core.specs.declared.dispatcher.Dispatcher.{Dispatcher}
-use Rattle.chain_core.specs.declared.moves.Move.{Move}
+use Rattle.chain_moves.specs.declared.dispatcher.Dispatcher.{Dispatcher}
+use Rattle.chain_moves.specs.declared.moves.Move.{Move}
 use Rattle.chain_core.specs.declared.chain_end.ChainEnd.{ChainEnd}
 use Rattle.chain_core.specs.declared.chain_end.ChainEnd.TheVariants.{Done, BudgetSpent, SinkFailed, Broken}
 

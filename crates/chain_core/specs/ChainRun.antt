@@ -8,8 +8,8 @@ use Rattle.hart_board.specs.Steps.{stands_at, board_at}
 use Rattle.hart_board.specs.declared.event.Event.{Event}
 use Rattle.hart_report.specs.declared.stepped.Stepped.{Stepped}
 use Rattle.hart_report.specs.declared.stepped.Stepped.TheVariants.{Retired}
-use Rattle.chain_core.specs.Slot.{in_slot, call, back}
-use Rattle.chain_core.specs.Servicing.{Service}
+use Rattle.chain_moves.specs.Slot.{in_slot, call, back}
+use Rattle.chain_moves.specs.Servicing.{Service}
 
 -- the count rises with each body: with each instruction that retires outside the slot
 abbrev pub is_body : Stepped → Bool

@@ -1,8 +1,8 @@
 -- How many moves of each kind a run has made.
 use Rattle.std.specs.Prelude.{ℕ, ◌+◌, List, [], ◌∷◌}
-use Rattle.chain_core.specs.Run.{Made}
-use Rattle.chain_core.specs.declared.moves.Move.{Move}
-use Rattle.chain_core.specs.declared.moves.Move.TheVariants.{Enter, Leave, Body}
+use Rattle.chain_moves.specs.Run.{Made}
+use Rattle.chain_moves.specs.declared.moves.Move.{Move}
+use Rattle.chain_moves.specs.declared.moves.Move.TheVariants.{Enter, Leave, Body}
 
 -- so many Enters, Leaves and Bodies, and so many Enters straight after a Leave
 pub record Counts : Type 0 where

@@ -1,13 +1,13 @@
 -- How a run ends whose steps of the board are bounded, and the services within the bound.
 use Rattle.std.specs.Prelude.{◌≡◌, ◌<◌, ◌≤◌, ℕ, zero, suc, ◌+◌, Bool, true, false, nat_le, List, ◌∷◌, length}
-use Rattle.chain_core.specs.Machine.{When, Before, Within, After, Makes, Breaks, Ends, Machine}
-use Rattle.chain_core.specs.Run.{Made, Run, On, Broke, Over, run_to, Leads}
-use Rattle.chain_core.specs.Cost.{cost}
-use Rattle.chain_core.specs.declared.dispatcher.Dispatcher.{Dispatcher}
+use Rattle.chain_moves.specs.Machine.{When, Before, Within, After, Makes, Breaks, Ends, Machine}
+use Rattle.chain_moves.specs.Run.{Made, Run, On, Broke, Over, run_to, Leads}
+use Rattle.chain_moves.specs.Cost.{cost}
+use Rattle.chain_moves.specs.declared.dispatcher.Dispatcher.{Dispatcher}
 pub use Rattle.chain_core.specs.declared.ended.Ended.{Ended}
 use Rattle.chain_core.specs.declared.chain_end.ChainEnd.{ChainEnd}
 use Rattle.chain_core.specs.declared.chain_end.ChainEnd.TheVariants.{Done, BudgetSpent, SinkFailed, Broken as BrokenOff}
-use Rattle.chain_core.specs.declared.broken.Broken.{Broken}
+use Rattle.chain_moves.specs.declared.broken.Broken.{Broken}
 
 -- the steps that are made when a test is made, and those that it takes to make it: a test whether an instruction raises takes the step that it doesn't make
 abbrev pub steps_before : When → ℕ → ℕ

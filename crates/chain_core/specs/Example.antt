@@ -6,8 +6,8 @@ use Rattle.hart_memory.specs.Memory.{zeros}
 use Rattle.clic_regs.specs.ClicState.{ClicState}
 use Rattle.hart_board.specs.declared.event.Event.{Event}
 use Rattle.hart_board.specs.declared.what.What.TheVariants.{Line}
-use Rattle.chain_core.specs.Servicing.{Live, Service, Servicing}
-use Rattle.chain_core.specs.Start.{words_bytes}
+use Rattle.chain_moves.specs.Servicing.{Live, Service, Servicing}
+use Rattle.chain_moves.specs.Start.{words_bytes}
 
 -- a device without registers, and the same once it has halted
 unfoldable pub nothing : Meanings

@@ -8,7 +8,7 @@ use Rattle.hart_board.specs.Event.{EventList, IsAhead, with_events}
 use Rattle.hart_board.specs.declared.event.Event.{Event}
 use Rattle.hart_report.specs.declared.stepped.Stepped.{Stepped}
 use Rattle.hart_report.specs.declared.stepped.Stepped.TheVariants.{Retired}
-use Rattle.chain_core.specs.Slot.{call, back}
+use Rattle.chain_moves.specs.Slot.{call, back}
 use Rattle.chain_core.specs.ChainRun.{is_body, chained_at, read_to}
 use Rattle.chain_core.specs.declared.course.Course.{Course}
 

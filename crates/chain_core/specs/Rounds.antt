@@ -8,25 +8,25 @@ use Rattle.hart_board.specs.Step.{Turn, tried}
 use Rattle.hart_board.specs.declared.event.Event.{Event}
 use Rattle.hart_report.specs.declared.stepped.Stepped.{Stepped}
 use Rattle.hart_report.specs.declared.stepped.Stepped.TheVariants.{Raised}
-use Rattle.chain_core.specs.Servicing.{is_foreground}
-use Rattle.chain_core.specs.Bytes.{revived_at}
-use Rattle.chain_core.specs.Tests.{is_lost}
-use Rattle.chain_core.specs.Cost.{body_cost, enter_cost, leave_cost, fused_leave_cost}
-use Rattle.chain_core.specs.Watched.{Watched, with_service, without_service}
-use Rattle.chain_core.specs.Judge.{judge_turn}
+use Rattle.chain_moves.specs.Servicing.{is_foreground}
+use Rattle.chain_moves.specs.Bytes.{revived_at}
+use Rattle.chain_moves.specs.Tests.{is_lost}
+use Rattle.chain_moves.specs.Cost.{body_cost, enter_cost, leave_cost, fused_leave_cost}
+use Rattle.chain_moves.specs.Watched.{Watched, with_service, without_service}
+use Rattle.chain_moves.specs.Judge.{judge_turn}
 use Rattle.chain_core.specs.Progress.{Progress, gone_by, goes}
-use Rattle.chain_core.specs.declared.broken.Broken.{Broken}
-use Rattle.chain_core.specs.declared.broken.Broken.TheVariants.{RegisterLost, Exception, HaltInHandler}
-use Rattle.chain_core.specs.declared.mark.Mark.{Mark}
-use Rattle.chain_core.specs.declared.dispatcher.Dispatcher.{Dispatcher}
+use Rattle.chain_moves.specs.declared.broken.Broken.{Broken}
+use Rattle.chain_moves.specs.declared.broken.Broken.TheVariants.{RegisterLost, Exception, HaltInHandler}
+use Rattle.chain_moves.specs.declared.mark.Mark.{Mark}
+use Rattle.chain_moves.specs.declared.dispatcher.Dispatcher.{Dispatcher}
 use Rattle.chain_core.specs.declared.round.Round.{Round}
 use Rattle.chain_core.specs.declared.round.Round.TheVariants.{Made, Failed, Ended, Spent}
-use Rattle.chain_core.specs.declared.verdict.Verdict.{Verdict}
-use Rattle.chain_core.specs.declared.verdict.Verdict.TheVariants.{Refused as BodyRefused, Plain, Reviving}
-use Rattle.chain_core.specs.declared.entry.Entry.{Entry}
-use Rattle.chain_core.specs.declared.entry.Entry.TheVariants.{Refused, Admitted}
-use Rattle.chain_core.specs.declared.turn.Turn.{Turn as Due}
-use Rattle.chain_core.specs.declared.turn.Turn.TheVariants.{Enter, Leave, Fuse, Body}
+use Rattle.chain_moves.specs.declared.verdict.Verdict.{Verdict}
+use Rattle.chain_moves.specs.declared.verdict.Verdict.TheVariants.{Refused as BodyRefused, Plain, Reviving}
+use Rattle.chain_moves.specs.declared.entry.Entry.{Entry}
+use Rattle.chain_moves.specs.declared.entry.Entry.TheVariants.{Refused, Admitted}
+use Rattle.chain_moves.specs.declared.turn.Turn.{Turn as Due}
+use Rattle.chain_moves.specs.declared.turn.Turn.TheVariants.{Enter, Leave, Fuse, Body}
 
 -- what became of a round, and how far the chain has come then
 pub record Rounded : Type 0 where

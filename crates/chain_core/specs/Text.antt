@@ -12,11 +12,11 @@ use Rattle.hart_report.specs.declared.stepped.Stepped.TheVariants.{Retired}
 use Rattle.hart_board.specs.State.{State}
 use Rattle.hart_board.specs.Step.{Turn, step}
 use Rattle.hart_board.specs.declared.event.Event.{Event}
-use Rattle.chain_core.specs.Slot.{call}
-use Rattle.chain_core.specs.Bytes.{is_dead}
+use Rattle.chain_moves.specs.Slot.{call}
+use Rattle.chain_moves.specs.Bytes.{is_dead}
 use Rattle.chain_core.specs.Progress.{Progress, gone, goes}
-use Rattle.chain_core.specs.declared.broken.Broken.{Broken}
-use Rattle.chain_core.specs.declared.broken.Broken.TheVariants.{CsrTouched, RegisterLost, ReadsDispatch, WritesFrame, StackBad, BadTable, NoDispatcher, HardVectored, EnteredDispatch, Exception, HaltInHandler}
+use Rattle.chain_moves.specs.declared.broken.Broken.{Broken}
+use Rattle.chain_moves.specs.declared.broken.Broken.TheVariants.{CsrTouched, RegisterLost, ReadsDispatch, WritesFrame, StackBad, BadTable, NoDispatcher, HardVectored, EnteredDispatch, Exception, HaltInHandler}
 use Rattle.chain_core.specs.declared.chain_end.ChainEnd.{ChainEnd}
 use Rattle.chain_core.specs.declared.chain_end.ChainEnd.TheVariants.{Done, BudgetSpent, SinkFailed, Broken as BrokenOff}
 

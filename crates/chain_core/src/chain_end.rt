@@ -1,6 +1,6 @@
 // Ends of a chain.
 
-use crate::broken::Broken;
+use chain_moves::Broken;
 
 /// How a chain ends.
 #[derive(Clone, Copy, Debug, PartialEq, Eq, Drop)]

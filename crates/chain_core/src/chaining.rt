@@ -2,23 +2,22 @@
 ghost use Rattle.std.specs.Prelude.{◌≡◌, true, IfOk, IfErr, IsTrue};
 ghost use Rattle.board_outside.specs.Sink.{Writes};
 ghost use Rattle.chain_core.specs.ChainRun.{read_to};
-ghost use Rattle.chain_core.specs.Words.{HasDispatcher};
-ghost use Rattle.chain_core.specs.Watched.{nothing_watched};
-ghost use Rattle.chain_core.specs.Moves.{servicing_machine};
-ghost use Rattle.chain_core.specs.Start.{begun};
+ghost use Rattle.chain_moves.specs.Words.{HasDispatcher};
+ghost use Rattle.chain_moves.specs.Watched.{nothing_watched};
+ghost use Rattle.chain_moves.specs.Moves.{servicing_machine};
+ghost use Rattle.chain_moves.specs.Start.{begun};
 ghost use Rattle.chain_core.specs.End.{services_within};
 ghost use Rattle.chain_core.specs.Chain.{chain_end, machine_run, board_after, dead_at, steps_part, report_part, chain_text, is_whole, is_done, StopsInSteps, Stops, AgreesWhereDone};
 ghost use Rattle.chain_core.specs.declared.chain_end.ChainEnd.TheVariants.{Done, SinkFailed};
 
 use crate::chain_end::ChainEnd;
 use crate::course::Course;
-use crate::dispatcher::Dispatcher;
 use crate::ended::Ended;
 use crate::ending::put_report;
 use crate::round::Round;
 use crate::rounds::round;
-use crate::watch::Watch;
 use board_outside::{Sink, SinkFault};
+use chain_moves::{Dispatcher, Watch};
 use device_model::Device;
 use hart_board::laws::kept_states_stay;
 use hart_board::{Board, Events, take_due};

@@ -6,8 +6,8 @@ ghost use Rattle.chain_core.specs.Text.{end_line, board_part, done_part, report}
 use crate::chain_end::ChainEnd;
 use crate::ended::Ended;
 use crate::telling::{put_bodies, put_broken_end};
-use crate::watch::Watch;
 use board_outside::{Sink, SinkFault};
+use chain_moves::Watch;
 use device_model::Device;
 use hart_board::Board;
 use hart_report::{

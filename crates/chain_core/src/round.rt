@@ -1,5 +1,5 @@
 // What becomes of a round.
-use crate::broken::Broken;
+use chain_moves::Broken;
 
 /// A move, or a Leave with the Enter that it is fused with.
 #[derive(Clone, Copy, Debug, PartialEq, Eq, Drop)]

@@ -13,9 +13,9 @@ ghost use Rattle.chain_core.specs.Text.{service_text, turn_text, Tells};
 ghost use Rattle.chain_core.specs.Rounds.{raised_code, tried_by, tried_steps};
 
 use crate::course::Course;
-use crate::slot::{BACK, BASE, CALL, SLOT_END};
 use crate::telling::put_service;
 use board_outside::{Sink, SinkFault};
+use chain_moves::slot::{BACK, BASE, CALL, SLOT_END};
 use device_model::Device;
 use hart_board::{Board, Events, Prepared, take_events};
 use hart_report::{Stepped, put_step};

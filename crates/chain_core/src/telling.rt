@@ -3,8 +3,8 @@ ghost use Rattle.std.specs.Prelude.{◌≡◌, ◌≤◌, ◌++◌, length, is_o
 ghost use Rattle.board_outside.specs.Sink.{Writes};
 ghost use Rattle.chain_core.specs.Text.{service_line, kind_name, broken_end, bodies_line};
 
-use crate::broken::Broken;
 use board_outside::{Sink, SinkFault};
+use chain_moves::Broken;
 use hart_words::Line;
 
 /// Writes that a service begins: the number of its input, its level and its depth.

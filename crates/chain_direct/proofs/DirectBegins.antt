@@ -9,18 +9,18 @@ use Rattle.clic_select.specs.declared.choice.Choice.{Choice}
 use Rattle.clic_trap.specs.Due.{is_above}
 use Rattle.hart_board.specs.declared.event.Event.{Event}
 use Rattle.hart_board.proofs.Privileged.{top_is_choice}
-use Rattle.chain_core.specs.Servicing.{Live, marks, innermost_level}
-use Rattle.chain_core.specs.Bytes.{some_byte, is_hidden}
-use Rattle.chain_core.specs.Tests.{first_broken}
-use Rattle.chain_core.specs.Enter.{takes_interrupts, is_enter_due, table_address, table_word}
-use Rattle.chain_core.specs.Machine.{Before, Breaks}
-use Rattle.chain_core.specs.Beside.{Rest}
-use Rattle.chain_core.specs.Related.{Ons, Related}
-use Rattle.chain_core.specs.declared.broken.Broken.{Broken}
-use Rattle.chain_core.specs.declared.broken.Broken.TheVariants.{BadTable}
-use Rattle.chain_core.specs.declared.dispatcher.Dispatcher.{Dispatcher}
-use Rattle.chain_core.proofs.Depth.{even-is, table_small}
-use Rattle.chain_core.proofs.Nested.{above}
+use Rattle.chain_moves.specs.Servicing.{Live, marks, innermost_level}
+use Rattle.chain_moves.specs.Bytes.{some_byte, is_hidden}
+use Rattle.chain_moves.specs.Tests.{first_broken}
+use Rattle.chain_moves.specs.Enter.{takes_interrupts, is_enter_due, table_address, table_word}
+use Rattle.chain_moves.specs.Machine.{Before, Breaks}
+use Rattle.chain_moves.specs.Beside.{Rest}
+use Rattle.chain_moves.specs.Related.{Ons, Related}
+use Rattle.chain_moves.specs.declared.broken.Broken.{Broken}
+use Rattle.chain_moves.specs.declared.broken.Broken.TheVariants.{BadTable}
+use Rattle.chain_moves.specs.declared.dispatcher.Dispatcher.{Dispatcher}
+use Rattle.chain_moves.proofs.Depth.{even-is, table_small}
+use Rattle.chain_moves.proofs.Nested.{above}
 use Rattle.chain_direct.specs.Directed.{Directed}
 use Rattle.chain_direct.specs.DirectMoves.{begin_tests, vectored, direct_move}
 use Rattle.chain_direct.specs.DirectRelated.{DirectRelated}

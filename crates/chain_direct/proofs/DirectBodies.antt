@@ -15,26 +15,26 @@ use Rattle.hart_board.specs.Event.{AreEventsFrom, with_events}
 use Rattle.hart_board.specs.declared.event.Event.{Event}
 use Rattle.hart_board.specs.declared.encoding.Encoding.{Encoding}
 use Rattle.hart_board.proofs.Still.{step_carries_out, tried_retires, tried_raises}
-use Rattle.chain_core.specs.Slot.{in_slot}
-use Rattle.chain_core.specs.Servicing.{Live, marks}
-use Rattle.chain_core.specs.Bytes.{revived_at}
-use Rattle.chain_core.specs.Tests.{first_broken, half_tests, second_tests, is_free, are_kept}
-use Rattle.chain_core.specs.Enter.{takes_interrupts}
-use Rattle.chain_core.specs.Machine.{Before, After, Moved, Makes, Breaks, unless_broken}
-use Rattle.chain_core.specs.Body.{is_long_at}
-use Rattle.chain_core.specs.Ranges.{IsInRange}
-use Rattle.chain_core.specs.Agreement.{AgreeRom}
-use Rattle.chain_core.specs.Beside.{Rest, board_with, board_of}
-use Rattle.chain_core.specs.Related.{Kept, Ons, Related}
-use Rattle.chain_core.specs.Watched.{watched_of}
-use Rattle.chain_core.specs.declared.broken.Broken.{Broken}
-use Rattle.chain_core.specs.declared.broken.Broken.TheVariants.{RegisterLost, EnteredDispatch}
-use Rattle.chain_core.specs.declared.dispatcher.Dispatcher.{Dispatcher}
-use Rattle.chain_core.specs.declared.moves.Move.TheVariants.{Body}
-use Rattle.chain_core.specs.declared.verdict.Verdict.TheVariants.{Refused, Plain as Quiet, Reviving}
-use Rattle.chain_core.proofs.OneOfThree.{at_made}
+use Rattle.chain_moves.specs.Slot.{in_slot}
+use Rattle.chain_moves.specs.Servicing.{Live, marks}
+use Rattle.chain_moves.specs.Bytes.{revived_at}
+use Rattle.chain_moves.specs.Tests.{first_broken, half_tests, second_tests, is_free, are_kept}
+use Rattle.chain_moves.specs.Enter.{takes_interrupts}
+use Rattle.chain_moves.specs.Machine.{Before, After, Moved, Makes, Breaks, unless_broken}
+use Rattle.chain_moves.specs.Body.{is_long_at}
+use Rattle.chain_moves.specs.Ranges.{IsInRange}
+use Rattle.chain_moves.specs.Agreement.{AgreeRom}
+use Rattle.chain_moves.specs.Beside.{Rest, board_with, board_of}
+use Rattle.chain_moves.specs.Related.{Kept, Ons, Related}
+use Rattle.chain_moves.specs.Watched.{watched_of}
+use Rattle.chain_moves.specs.declared.broken.Broken.{Broken}
+use Rattle.chain_moves.specs.declared.broken.Broken.TheVariants.{RegisterLost, EnteredDispatch}
+use Rattle.chain_moves.specs.declared.dispatcher.Dispatcher.{Dispatcher}
+use Rattle.chain_moves.specs.declared.moves.Move.TheVariants.{Body}
+use Rattle.chain_moves.specs.declared.verdict.Verdict.TheVariants.{Refused, Plain as Quiet, Reviving}
+use Rattle.chain_moves.proofs.OneOfThree.{at_made}
 use Rattle.chain_core.proofs.OneStep.{masked}
-use Rattle.chain_core.proofs.Bodies.{retires}
+use Rattle.chain_moves.proofs.Bodies.{retires}
 use Rattle.chain_direct.specs.Kind.{Kind, Plain}
 use Rattle.chain_direct.specs.Directed.{Direct, Directed}
 use Rattle.chain_direct.specs.DirectBody.{are_same, direct_ended, direct_fetched, direct_body}

@@ -3,19 +3,19 @@ use Rattle.std.proofs.Common.{◌≡◌, ℕ, ◌+◌, ◌*◌, ◌-◌, ◌≤�
 use Rattle.device_model.specs.Meanings.{Meanings}
 use Rattle.hart_board.specs.State.{State}
 use Rattle.hart_board.specs.declared.event.Event.{Event}
-use Rattle.chain_core.specs.Slot.{base, slot_end}
-use Rattle.chain_core.specs.Run.{Leads}
-use Rattle.chain_core.specs.Cost.{cost}
+use Rattle.chain_moves.specs.Slot.{base, slot_end}
+use Rattle.chain_moves.specs.Run.{Leads}
+use Rattle.chain_moves.specs.Cost.{cost}
 use Rattle.chain_core.specs.Counts.{counts}
 use Rattle.chain_core.specs.End.{EndsAs, IsDone}
 use Rattle.chain_core.specs.Both.{with_slot_bytes}
-use Rattle.chain_core.specs.declared.dispatcher.Dispatcher.{Dispatcher}
-use Rattle.chain_core.specs.declared.dispatcher.Dispatcher.TheVariants.{Looping, Returning}
+use Rattle.chain_moves.specs.declared.dispatcher.Dispatcher.{Dispatcher}
+use Rattle.chain_moves.specs.declared.dispatcher.Dispatcher.TheVariants.{Looping, Returning}
 use Rattle.chain_core.specs.declared.ended.Ended.{Ended}
 use Rattle.chain_core.specs.declared.chain_end.ChainEnd.TheVariants.{Done}
 use Rattle.chain_core.proofs.Ends.{ends_so}
 use Rattle.chain_core.proofs.Bounded.{same_over, services_are, over_last}
-use Rattle.chain_core.proofs.Starts.{starts_same}
+use Rattle.chain_moves.proofs.Starts.{starts_same}
 use Rattle.chain_core.proofs.BothRuns.{same_boards}
 use Rattle.chain_direct.specs.Directed.{Directed, beside_none}
 use Rattle.chain_direct.specs.DirectCounts.{as_moves}

@@ -6,25 +6,25 @@ use Rattle.hart_board.specs.State.{State}
 use Rattle.hart_board.specs.Run.{Stand}
 use Rattle.hart_board.specs.declared.event.Event.{Event}
 use Rattle.hart_memory.specs.declared.address_map.TheConstants.{RAM_BASE, BANK_LEN}
-use Rattle.chain_core.specs.Slot.{frame_size}
-use Rattle.chain_core.specs.Judge.{judge_turn}
-use Rattle.chain_core.specs.declared.turn.Turn.TheVariants.{Enter, Fuse}
-use Rattle.chain_core.specs.declared.entry.Entry.TheVariants.{Admitted}
-use Rattle.chain_core.specs.Servicing.{Service, Servicing}
-use Rattle.chain_core.specs.Machine.{Machine}
-use Rattle.chain_core.specs.Run.{Made, Leads}
-use Rattle.chain_core.specs.Cost.{cost}
+use Rattle.chain_moves.specs.Slot.{frame_size}
+use Rattle.chain_moves.specs.Judge.{judge_turn}
+use Rattle.chain_moves.specs.declared.turn.Turn.TheVariants.{Enter, Fuse}
+use Rattle.chain_moves.specs.declared.entry.Entry.TheVariants.{Admitted}
+use Rattle.chain_moves.specs.Servicing.{Service, Servicing}
+use Rattle.chain_moves.specs.Machine.{Machine}
+use Rattle.chain_moves.specs.Run.{Made, Leads}
+use Rattle.chain_moves.specs.Cost.{cost}
 use Rattle.chain_core.specs.End.{steps_before, steps_needed}
-use Rattle.chain_core.specs.Moves.{claims, servicing_machine}
+use Rattle.chain_moves.specs.Moves.{claims, servicing_machine}
 use Rattle.chain_core.specs.ChainRun.{chained_at, read_to}
-use Rattle.chain_core.specs.Watched.{Watched}
-use Rattle.chain_core.specs.Beside.{Rest, board_of}
-use Rattle.chain_core.specs.Related.{Related}
+use Rattle.chain_moves.specs.Watched.{Watched}
+use Rattle.chain_moves.specs.Beside.{Rest, board_of}
+use Rattle.chain_moves.specs.Related.{Related}
 use Rattle.chain_core.specs.Progress.{Progress}
 use Rattle.chain_core.specs.Rounds.{round, steps_made}
-use Rattle.chain_core.specs.declared.broken.Broken.{Broken}
-use Rattle.chain_core.specs.declared.dispatcher.Dispatcher.{Dispatcher}
-use Rattle.chain_core.specs.declared.moves.Move.{Move}
+use Rattle.chain_moves.specs.declared.broken.Broken.{Broken}
+use Rattle.chain_moves.specs.declared.dispatcher.Dispatcher.{Dispatcher}
+use Rattle.chain_moves.specs.declared.moves.Move.{Move}
 use Rattle.chain_core.specs.declared.round.Round.{Round}
 use Rattle.chain_core.specs.declared.round.Round.TheVariants.{Made as RoundMade, Failed, Ended, Spent}
 use Rattle.chain_core.proofs.Ends.{moves_below, over_at}

@@ -5,29 +5,29 @@ use Rattle.std.proofs.Math.Bool.{and-false}
 use Rattle.device_model.specs.Meanings.{Meanings}
 use Rattle.clic_select.specs.Top.{top}
 use Rattle.hart_board.specs.declared.event.Event.{Event}
-use Rattle.chain_core.specs.Servicing.{Servicing}
-use Rattle.chain_core.specs.Enter.{is_enter_due}
-use Rattle.chain_core.specs.Machine.{Machine, Moved, Makes, Breaks, Ends, Before, unless_broken}
-use Rattle.chain_core.specs.Run.{Made, Leads}
-use Rattle.chain_core.specs.Moves.{claims, claims_by, servicing_machine}
-use Rattle.chain_core.specs.Cost.{is_fused, is_halfway, price, cost}
+use Rattle.chain_moves.specs.Servicing.{Servicing}
+use Rattle.chain_moves.specs.Enter.{is_enter_due}
+use Rattle.chain_moves.specs.Machine.{Machine, Moved, Makes, Breaks, Ends, Before, unless_broken}
+use Rattle.chain_moves.specs.Run.{Made, Leads}
+use Rattle.chain_moves.specs.Moves.{claims, claims_by, servicing_machine}
+use Rattle.chain_moves.specs.Cost.{is_fused, is_halfway, price, cost}
 use Rattle.chain_core.specs.Counts.{Counts, counts, counted}
-use Rattle.chain_core.specs.Kinds.{EnterLeaves, LeaveLeaves, BodyLeaves}
-use Rattle.chain_core.specs.declared.dispatcher.Dispatcher.{Dispatcher}
-use Rattle.chain_core.specs.declared.dispatcher.Dispatcher.TheVariants.{Looping, Returning}
-use Rattle.chain_core.specs.declared.moves.Move.{Move}
-use Rattle.chain_core.specs.declared.moves.Move.TheVariants.{Enter, Leave, Body}
-use Rattle.chain_core.proofs.OneOfThree.{at_made, running}
-use Rattle.chain_core.proofs.Alone.{leaves_alone}
+use Rattle.chain_moves.specs.Kinds.{EnterLeaves, LeaveLeaves, BodyLeaves}
+use Rattle.chain_moves.specs.declared.dispatcher.Dispatcher.{Dispatcher}
+use Rattle.chain_moves.specs.declared.dispatcher.Dispatcher.TheVariants.{Looping, Returning}
+use Rattle.chain_moves.specs.declared.moves.Move.{Move}
+use Rattle.chain_moves.specs.declared.moves.Move.TheVariants.{Enter, Leave, Body}
+use Rattle.chain_moves.proofs.OneOfThree.{at_made, running}
+use Rattle.chain_moves.proofs.Alone.{leaves_alone}
 use Rattle.chain_core.proofs.Costs.{Follows, AreFollowing, soft, quiet, rest, returning_is, looping_is}
 use Rattle.chain_direct.specs.Kind.{Kind, Begin, Plain, costs_as}
 use Rattle.chain_direct.specs.Directed.{Direct, Listed, Directed, is_alone, newest}
 use Rattle.chain_direct.specs.DirectBody.{direct_body}
 use Rattle.clic_select.specs.declared.choice.Choice.{Choice}
-use Rattle.chain_core.specs.declared.broken.Broken.{Broken}
-use Rattle.chain_core.specs.Tests.{first_broken}
-use Rattle.chain_core.specs.Enter.{table_address}
-use Rattle.chain_core.specs.Moves.{move}
+use Rattle.chain_moves.specs.declared.broken.Broken.{Broken}
+use Rattle.chain_moves.specs.Tests.{first_broken}
+use Rattle.chain_moves.specs.Enter.{table_address}
+use Rattle.chain_moves.specs.Moves.{move}
 use Rattle.chain_direct.specs.DirectMoves.{begin_tests, vectored, with_move, entering_by, moved_alone, moved_by, direct_move, direct_claims, direct_machine}
 use Rattle.chain_direct.specs.DirectKinds.{Begins, Chains, IsDirectMove}
 use Rattle.chain_direct.specs.DirectCounts.{as_moves, one_begin, begins_in}

@@ -12,13 +12,13 @@ use Rattle.hart_board.specs.Valid.{IsBoard}
 use Rattle.hart_board.specs.Event.{AreEventsFrom, with_events}
 use Rattle.hart_board.specs.Steps.{board_at}
 use Rattle.hart_board.specs.declared.event.Event.{Event}
-use Rattle.chain_core.specs.Words.{HasDispatcher}
+use Rattle.chain_moves.specs.Words.{HasDispatcher}
 use Rattle.chain_core.specs.ChainRun.{is_body}
 use Rattle.chain_core.specs.End.{services_within}
 use Rattle.chain_core.specs.Progress.{Progress}
 use Rattle.chain_core.specs.Text.{report}
 use Rattle.chain_core.specs.Chain.{is_whole, is_done}
-use Rattle.chain_core.specs.declared.dispatcher.Dispatcher.{Dispatcher}
+use Rattle.chain_moves.specs.declared.dispatcher.Dispatcher.{Dispatcher}
 use Rattle.chain_core.specs.declared.ended.Ended.{Ended}
 use Rattle.chain_core.specs.declared.chain_end.ChainEnd.{ChainEnd}
 use Rattle.chain_core.specs.declared.chain_end.ChainEnd.TheVariants.{Done, BudgetSpent, SinkFailed, Broken as BrokenOff}

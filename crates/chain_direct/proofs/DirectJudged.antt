@@ -18,25 +18,25 @@ use Rattle.rvc_encoding.specs.Decoding.{decoded}
 use Rattle.hart_board.specs.declared.event.Event.{Event}
 use Rattle.hart_board.specs.declared.trap.Trap.{Trap}
 use Rattle.hart_board.specs.declared.encoding.Encoding.{Encoding}
-use Rattle.chain_core.specs.Slot.{in_slot}
-use Rattle.chain_core.specs.Servicing.{marks, innermost_level}
-use Rattle.chain_core.specs.Bytes.{some_byte, is_hidden}
-use Rattle.chain_core.specs.Convention.{is_permitted}
-use Rattle.chain_core.specs.Tests.{first_broken, first_tests, second_tests}
-use Rattle.chain_core.specs.Enter.{takes_interrupts}
-use Rattle.chain_core.specs.Machine.{Before, Moved, Makes, unless_broken}
-use Rattle.chain_core.specs.Body.{hart, with_hart, is_long_at}
-use Rattle.chain_core.specs.Beside.{Rest, board_of}
-use Rattle.chain_core.specs.Related.{Stands}
-use Rattle.chain_core.specs.Watched.{Watched, watched_of}
-use Rattle.chain_core.specs.Judge.{judge_effect}
-use Rattle.chain_core.specs.declared.broken.Broken.{Broken}
-use Rattle.chain_core.specs.declared.broken.Broken.TheVariants.{CsrTouched, EnteredDispatch}
-use Rattle.chain_core.specs.declared.dispatcher.Dispatcher.{Dispatcher}
-use Rattle.chain_core.specs.declared.moves.Move.TheVariants.{Body}
-use Rattle.chain_core.proofs.Nested.{passed}
-use Rattle.chain_core.proofs.Lifted.{handlers_lifted}
-use Rattle.chain_core.proofs.Judged.{IsRaised, IsMade, Means, carried, performed_means, half_passes, same_fetch, same_length}
+use Rattle.chain_moves.specs.Slot.{in_slot}
+use Rattle.chain_moves.specs.Servicing.{marks, innermost_level}
+use Rattle.chain_moves.specs.Bytes.{some_byte, is_hidden}
+use Rattle.chain_moves.specs.Convention.{is_permitted}
+use Rattle.chain_moves.specs.Tests.{first_broken, first_tests, second_tests}
+use Rattle.chain_moves.specs.Enter.{takes_interrupts}
+use Rattle.chain_moves.specs.Machine.{Before, Moved, Makes, unless_broken}
+use Rattle.chain_moves.specs.Body.{hart, with_hart, is_long_at}
+use Rattle.chain_moves.specs.Beside.{Rest, board_of}
+use Rattle.chain_moves.specs.Related.{Stands}
+use Rattle.chain_moves.specs.Watched.{Watched, watched_of}
+use Rattle.chain_moves.specs.Judge.{judge_effect}
+use Rattle.chain_moves.specs.declared.broken.Broken.{Broken}
+use Rattle.chain_moves.specs.declared.broken.Broken.TheVariants.{CsrTouched, EnteredDispatch}
+use Rattle.chain_moves.specs.declared.dispatcher.Dispatcher.{Dispatcher}
+use Rattle.chain_moves.specs.declared.moves.Move.TheVariants.{Body}
+use Rattle.chain_moves.proofs.Nested.{passed}
+use Rattle.chain_moves.proofs.Lifted.{handlers_lifted}
+use Rattle.chain_moves.proofs.Judged.{IsRaised, IsMade, Means, carried, performed_means, half_passes, same_fetch, same_length}
 use Rattle.chain_direct.specs.Kind.{Kind, Plain}
 use Rattle.chain_direct.specs.Directed.{Direct, Directed}
 use Rattle.chain_direct.specs.DirectBody.{is_csr, direct_instruction_tests, with_its_events, direct_performed, direct_ended, direct_made, direct_decoded, direct_fetched, direct_body}

@@ -14,27 +14,27 @@ use Rattle.hart_board.specs.Event.{AreEventsFrom}
 use Rattle.hart_board.specs.declared.event.Event.{Event}
 use Rattle.hart_report.specs.declared.stepped.Stepped.TheVariants.{Interrupted, Retired, Raised}
 use Rattle.hart_board.specs.declared.encoding.Encoding.{Encoding}
-use Rattle.chain_core.specs.Slot.{in_slot}
-use Rattle.chain_core.specs.Servicing.{marks}
-use Rattle.chain_core.specs.Bytes.{revived_at}
-use Rattle.chain_core.specs.Tests.{first_broken}
-use Rattle.chain_core.specs.Machine.{When, Within, After, Moved, Makes, Breaks, Machine}
+use Rattle.chain_moves.specs.Slot.{in_slot}
+use Rattle.chain_moves.specs.Servicing.{marks}
+use Rattle.chain_moves.specs.Bytes.{revived_at}
+use Rattle.chain_moves.specs.Tests.{first_broken}
+use Rattle.chain_moves.specs.Machine.{When, Within, After, Moved, Makes, Breaks, Machine}
 use Rattle.chain_core.specs.End.{steps_needed}
-use Rattle.chain_core.specs.Run.{Made}
-use Rattle.chain_core.specs.Cost.{is_fused, is_halfway, price, cost, body_cost}
-use Rattle.chain_core.specs.Enter.{is_enter_due, table_address}
+use Rattle.chain_moves.specs.Run.{Made}
+use Rattle.chain_moves.specs.Cost.{is_fused, is_halfway, price, cost, body_cost}
+use Rattle.chain_moves.specs.Enter.{is_enter_due, table_address}
 use Rattle.chain_core.specs.ChainRun.{chained_at, Read, read_to}
-use Rattle.chain_core.specs.Watched.{Watched, watched_of}
-use Rattle.chain_core.specs.Beside.{Rest, board_of}
-use Rattle.chain_core.specs.Related.{Related}
+use Rattle.chain_moves.specs.Watched.{Watched, watched_of}
+use Rattle.chain_moves.specs.Beside.{Rest, board_of}
+use Rattle.chain_moves.specs.Related.{Related}
 use Rattle.chain_core.specs.Progress.{Progress, gone_by, goes, progress_at}
-use Rattle.chain_core.specs.declared.broken.Broken.{Broken}
-use Rattle.chain_core.specs.declared.broken.Broken.TheVariants.{RegisterLost, Exception, BadTable, HaltInHandler}
-use Rattle.chain_core.specs.declared.dispatcher.Dispatcher.{Dispatcher}
+use Rattle.chain_moves.specs.declared.broken.Broken.{Broken}
+use Rattle.chain_moves.specs.declared.broken.Broken.TheVariants.{RegisterLost, Exception, BadTable, HaltInHandler}
+use Rattle.chain_moves.specs.declared.dispatcher.Dispatcher.{Dispatcher}
 use Rattle.chain_core.specs.declared.chain_end.ChainEnd.TheVariants.{BudgetSpent, Broken as BrokenOff}
-use Rattle.chain_core.specs.declared.moves.Move.TheVariants.{Body}
-use Rattle.chain_core.specs.declared.verdict.Verdict.TheVariants.{Refused, Plain as Quiet, Reviving}
-use Rattle.chain_core.proofs.OneOfThree.{at_made}
+use Rattle.chain_moves.specs.declared.moves.Move.TheVariants.{Body}
+use Rattle.chain_moves.specs.declared.verdict.Verdict.TheVariants.{Refused, Plain as Quiet, Reviving}
+use Rattle.chain_moves.proofs.OneOfThree.{at_made}
 use Rattle.chain_core.proofs.Bounded.{Late}
 use Rattle.chain_core.proofs.BodyRuns.{body_in_run}
 use Rattle.chain_core.proofs.RoundsBegin.{body_whole}

@@ -14,22 +14,22 @@ use Rattle.hart_board.specs.Step.{step}
 use Rattle.hart_board.specs.Run.{Stand}
 use Rattle.hart_board.specs.Steps.{board_at}
 use Rattle.hart_board.specs.declared.event.Event.{Event}
-use Rattle.chain_core.specs.Slot.{call}
-use Rattle.chain_core.specs.Words.{HasDispatcher}
-use Rattle.chain_core.specs.Cost.{cost}
-use Rattle.chain_core.specs.Start.{begun}
+use Rattle.chain_moves.specs.Slot.{call}
+use Rattle.chain_moves.specs.Words.{HasDispatcher}
+use Rattle.chain_moves.specs.Cost.{cost}
+use Rattle.chain_moves.specs.Start.{begun}
 use Rattle.chain_core.specs.ChainRun.{is_body, Read, nothing_read, read_to}
 use Rattle.chain_core.specs.Progress.{Progress, progress_of, progress_at, HasRoom}
 use Rattle.chain_core.specs.Rounds.{steps_made}
 use Rattle.chain_core.specs.declared.course.Course.{Course}
-use Rattle.chain_core.specs.declared.dispatcher.Dispatcher.{Dispatcher}
+use Rattle.chain_moves.specs.declared.dispatcher.Dispatcher.{Dispatcher}
 use Rattle.chain_core.specs.declared.ended.Ended.{Ended}
 use Rattle.chain_core.specs.declared.chain_end.ChainEnd.{ChainEnd}
 use Rattle.chain_core.specs.declared.round.Round.{Round}
-use Rattle.chain_core.proofs.Begun.{rest_of, start_is, start_related, begun_inputs}
+use Rattle.chain_moves.proofs.Begun.{rest_of, start_is, start_related, begun_inputs}
 use Rattle.chain_core.proofs.Bounded.{steps_within}
 use Rattle.chain_core.proofs.BodyRuns.{starts_run}
-use Rattle.chain_core.proofs.Watching.{begun_watched}
+use Rattle.chain_moves.proofs.Watching.{begun_watched}
 use Rattle.chain_core.proofs.Standing.{at_most}
 use Rattle.chain_direct.specs.Directed.{beside_none, all_chained}
 use Rattle.chain_direct.specs.DirectMoves.{direct_machine, direct_start}

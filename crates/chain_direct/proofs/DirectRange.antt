@@ -14,17 +14,17 @@ use Rattle.hart_board.specs.Event.{AreEventsFrom}
 use Rattle.hart_board.specs.declared.event.Event.{Event}
 use Rattle.hart_board.specs.declared.trap.Trap.{Trap}
 use Rattle.hart_board.proofs.Keeping.{Of, performed_holds}
-use Rattle.chain_core.specs.Servicing.{marks}
-use Rattle.chain_core.specs.Tests.{first_broken, first_tests, second_tests, access_tests}
-use Rattle.chain_core.specs.Machine.{Before, After, Makes, unless_broken}
-use Rattle.chain_core.specs.Body.{hart, with_hart, dead_after, is_long_at}
-use Rattle.chain_core.specs.Ranges.{IsInRange}
-use Rattle.chain_core.specs.Watched.{watched_of}
-use Rattle.chain_core.specs.declared.broken.Broken.TheVariants.{CsrTouched}
-use Rattle.chain_core.specs.declared.moves.Move.TheVariants.{Body}
-use Rattle.chain_core.proofs.OneOfThree.{WhereMade, unless}
-use Rattle.chain_core.proofs.Depth.{Keeps, keeps_does, after_range}
-use Rattle.chain_core.proofs.Nested.{passed}
+use Rattle.chain_moves.specs.Servicing.{marks}
+use Rattle.chain_moves.specs.Tests.{first_broken, first_tests, second_tests, access_tests}
+use Rattle.chain_moves.specs.Machine.{Before, After, Makes, unless_broken}
+use Rattle.chain_moves.specs.Body.{hart, with_hart, dead_after, is_long_at}
+use Rattle.chain_moves.specs.Ranges.{IsInRange}
+use Rattle.chain_moves.specs.Watched.{watched_of}
+use Rattle.chain_moves.specs.declared.broken.Broken.TheVariants.{CsrTouched}
+use Rattle.chain_moves.specs.declared.moves.Move.TheVariants.{Body}
+use Rattle.chain_moves.proofs.OneOfThree.{WhereMade, unless}
+use Rattle.chain_moves.proofs.Depth.{Keeps, keeps_does, after_range}
+use Rattle.chain_moves.proofs.Nested.{passed}
 use Rattle.chain_direct.specs.Kind.{Kind, Plain}
 use Rattle.chain_direct.specs.Directed.{Direct, Directed}
 use Rattle.chain_direct.specs.DirectBody.{is_csr, direct_instruction_tests, ended_tests, direct_performed, direct_ended, direct_made, direct_decoded, direct_fetched, direct_body}

@@ -9,9 +9,9 @@ use Rattle.clic_select.specs.Top.{top}
 use Rattle.hart_report.specs.declared.stepped.Stepped.TheVariants.{Retired}
 use Rattle.hart_board.specs.State.{State}
 use Rattle.hart_board.specs.Step.{step}
-use Rattle.chain_core.specs.Servicing.{Servicing, marks, innermost_level}
-use Rattle.chain_core.specs.Enter.{takes_interrupts}
-use Rattle.chain_core.specs.Beside.{Rest, board_of}
+use Rattle.chain_moves.specs.Servicing.{Servicing, marks, innermost_level}
+use Rattle.chain_moves.specs.Enter.{takes_interrupts}
+use Rattle.chain_moves.specs.Beside.{Rest, board_of}
 use Rattle.chain_core.proofs.OneStep.{runs, masked, mret_is}
 use Rattle.chain_direct.specs.Directed.{Direct}
 use Rattle.chain_direct.specs.DirectBeside.{direct_board_of, rest_returned}

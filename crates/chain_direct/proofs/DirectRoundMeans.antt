@@ -17,23 +17,23 @@ use Rattle.hart_board.specs.Run.{Stand}
 use Rattle.hart_board.specs.Steps.{board_at}
 use Rattle.hart_board.specs.declared.event.Event.{Event}
 use Rattle.hart_report.specs.declared.stepped.Stepped.TheVariants.{Interrupted}
-use Rattle.chain_core.specs.Slot.{frame_size}
-use Rattle.chain_core.specs.Tests.{first_broken}
-use Rattle.chain_core.specs.Enter.{is_enter_due, table_address}
-use Rattle.chain_core.specs.Cost.{body_cost}
+use Rattle.chain_moves.specs.Slot.{frame_size}
+use Rattle.chain_moves.specs.Tests.{first_broken}
+use Rattle.chain_moves.specs.Enter.{is_enter_due, table_address}
+use Rattle.chain_moves.specs.Cost.{body_cost}
 use Rattle.chain_core.specs.ChainRun.{is_body, chained_at, read_to}
-use Rattle.chain_core.specs.Watched.{Watched}
-use Rattle.chain_core.specs.Judge.{judge_turn}
-use Rattle.chain_core.specs.Beside.{Rest, board_of}
-use Rattle.chain_core.specs.Related.{Related}
+use Rattle.chain_moves.specs.Watched.{Watched}
+use Rattle.chain_moves.specs.Judge.{judge_turn}
+use Rattle.chain_moves.specs.Beside.{Rest, board_of}
+use Rattle.chain_moves.specs.Related.{Related}
 use Rattle.chain_core.specs.Progress.{Progress, goes, progress_at}
 use Rattle.chain_core.specs.Text.{turn_text, next_text, steps_text, Cut, Tells}
 use Rattle.chain_core.specs.Rounds.{raised_code, steps_made}
-use Rattle.chain_core.specs.declared.broken.Broken.{Broken}
-use Rattle.chain_core.specs.declared.dispatcher.Dispatcher.{Dispatcher}
-use Rattle.chain_core.specs.declared.turn.Turn.TheVariants.{Enter, Fuse}
-use Rattle.chain_core.specs.declared.entry.Entry.TheVariants.{Admitted}
-use Rattle.chain_core.specs.declared.verdict.Verdict.TheVariants.{Refused, Plain as Quiet, Reviving}
+use Rattle.chain_moves.specs.declared.broken.Broken.{Broken}
+use Rattle.chain_moves.specs.declared.dispatcher.Dispatcher.{Dispatcher}
+use Rattle.chain_moves.specs.declared.turn.Turn.TheVariants.{Enter, Fuse}
+use Rattle.chain_moves.specs.declared.entry.Entry.TheVariants.{Admitted}
+use Rattle.chain_moves.specs.declared.verdict.Verdict.TheVariants.{Refused, Plain as Quiet, Reviving}
 use Rattle.chain_core.proofs.OneStep.{masked}
 use Rattle.chain_core.proofs.Standing.{goes_at}
 use Rattle.chain_direct.specs.Directed.{Direct, Directed}

@@ -11,7 +11,7 @@ use Rattle.hart_board.specs.Step.{Turn, step}
 use Rattle.hart_board.specs.Run.{Stand, after_step}
 use Rattle.hart_board.specs.Steps.{stands_at, board_at, told_at, told_to, goes_on, GoesOnBefore}
 use Rattle.hart_board.specs.declared.event.Event.{Event}
-use Rattle.chain_core.specs.Slot.{in_slot, call}
+use Rattle.chain_moves.specs.Slot.{in_slot, call}
 use Rattle.chain_core.specs.ChainRun.{is_body, chained_at, read_services, read_to}
 use Rattle.chain_direct.specs.DirectRun.{is_vectored, called, entered_directly, begins, begins_after}
 

@@ -10,8 +10,8 @@ use Rattle.hart_board.specs.State.{State}
 use Rattle.hart_board.specs.Step.{step}
 use Rattle.hart_board.specs.Steps.{board_at}
 use Rattle.hart_board.specs.declared.event.Event.{Event}
-use Rattle.chain_core.specs.Slot.{call, back}
-use Rattle.chain_core.specs.Servicing.{Service}
+use Rattle.chain_moves.specs.Slot.{call, back}
+use Rattle.chain_moves.specs.Servicing.{Service}
 use Rattle.chain_core.specs.ChainRun.{is_body, Read, read_at, read_by, read_to}
 use Rattle.chain_core.specs.Progress.{goes, progress_at}
 use Rattle.chain_core.specs.Text.{next_text, steps_text}

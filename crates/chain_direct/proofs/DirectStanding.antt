@@ -4,19 +4,19 @@ use Rattle.device_model.specs.Meanings.{Meanings}
 use Rattle.hart_board.specs.State.{State}
 use Rattle.hart_board.specs.Event.{AreEventsFrom}
 use Rattle.hart_board.specs.declared.event.Event.{Event}
-use Rattle.chain_core.specs.Servicing.{Servicing}
-use Rattle.chain_core.specs.Machine.{When, Before, Breaks, Ends, Machine}
-use Rattle.chain_core.specs.Run.{Made, Over, run_to, Leads}
-use Rattle.chain_core.specs.Cost.{cost, is_halfway}
+use Rattle.chain_moves.specs.Servicing.{Servicing}
+use Rattle.chain_moves.specs.Machine.{When, Before, Breaks, Ends, Machine}
+use Rattle.chain_moves.specs.Run.{Made, Over, run_to, Leads}
+use Rattle.chain_moves.specs.Cost.{cost, is_halfway}
 use Rattle.chain_core.specs.End.{steps_before, steps_needed, end_at, services_within}
 use Rattle.chain_core.specs.ChainRun.{chained_at, read_to}
-use Rattle.chain_core.specs.Watched.{watched_of}
-use Rattle.chain_core.specs.Beside.{Rest, board_of}
-use Rattle.chain_core.specs.Related.{Related}
+use Rattle.chain_moves.specs.Watched.{watched_of}
+use Rattle.chain_moves.specs.Beside.{Rest, board_of}
+use Rattle.chain_moves.specs.Related.{Related}
 use Rattle.chain_core.specs.Progress.{Progress, goes, progress_at}
 use Rattle.chain_core.specs.Rounds.{steps_made}
-use Rattle.chain_core.specs.declared.broken.Broken.{Broken}
-use Rattle.chain_core.specs.declared.dispatcher.Dispatcher.{Dispatcher}
+use Rattle.chain_moves.specs.declared.broken.Broken.{Broken}
+use Rattle.chain_moves.specs.declared.dispatcher.Dispatcher.{Dispatcher}
 use Rattle.chain_core.specs.declared.chain_end.ChainEnd.{ChainEnd}
 use Rattle.chain_core.specs.declared.chain_end.ChainEnd.TheVariants.{Done, BudgetSpent, Broken as BrokenOff}
 use Rattle.chain_core.specs.declared.round.Round.{Round}

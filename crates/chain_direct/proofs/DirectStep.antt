@@ -14,17 +14,17 @@ use Rattle.clic_trap.specs.Entry.{interrupted as trapped, entered as trap_entere
 use Rattle.hart_report.specs.declared.stepped.Stepped.TheVariants.{Interrupted}
 use Rattle.hart_board.specs.State.{State}
 use Rattle.hart_board.specs.Step.{step, turn_or_halted, turn_by, interrupted}
-use Rattle.chain_core.specs.Servicing.{marks, innermost_level}
-use Rattle.chain_core.specs.Bytes.{some_byte, is_hidden}
-use Rattle.chain_core.specs.Tests.{first_broken}
-use Rattle.chain_core.specs.Enter.{takes_interrupts, is_enter_due, table_address, table_word}
-use Rattle.chain_core.specs.Body.{hart}
-use Rattle.chain_core.specs.Beside.{Rest, board_of}
-use Rattle.chain_core.specs.Related.{Related}
-use Rattle.chain_core.specs.declared.dispatcher.Dispatcher.{Dispatcher}
-use Rattle.chain_core.proofs.Nested.{passed}
-use Rattle.chain_core.proofs.Marking.{none_of}
-use Rattle.chain_core.proofs.TableWord.{table_reads}
+use Rattle.chain_moves.specs.Servicing.{marks, innermost_level}
+use Rattle.chain_moves.specs.Bytes.{some_byte, is_hidden}
+use Rattle.chain_moves.specs.Tests.{first_broken}
+use Rattle.chain_moves.specs.Enter.{takes_interrupts, is_enter_due, table_address, table_word}
+use Rattle.chain_moves.specs.Body.{hart}
+use Rattle.chain_moves.specs.Beside.{Rest, board_of}
+use Rattle.chain_moves.specs.Related.{Related}
+use Rattle.chain_moves.specs.declared.dispatcher.Dispatcher.{Dispatcher}
+use Rattle.chain_moves.proofs.Nested.{passed}
+use Rattle.chain_moves.proofs.Marking.{none_of}
+use Rattle.chain_moves.proofs.TableWord.{table_reads}
 use Rattle.chain_direct.specs.Directed.{Directed}
 use Rattle.chain_direct.specs.DirectMoves.{begin_tests, vectored}
 use Rattle.chain_direct.specs.DirectBeside.{direct_csrs, direct_board_of}

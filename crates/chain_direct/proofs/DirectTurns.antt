@@ -4,11 +4,11 @@ use Rattle.device_model.specs.Meanings.{Meanings}
 use Rattle.clic_select.specs.Top.{top}
 use Rattle.clic_select.specs.declared.choice.Choice.{Choice}
 use Rattle.hart_board.specs.declared.event.Event.{Event}
-use Rattle.chain_core.specs.Tests.{first_broken}
-use Rattle.chain_core.specs.Enter.{is_enter_due, table_address}
-use Rattle.chain_core.specs.Machine.{Before, Makes, Breaks, unless_broken}
-use Rattle.chain_core.specs.declared.broken.Broken.{Broken}
-use Rattle.chain_core.specs.declared.broken.Broken.TheVariants.{HaltInHandler}
+use Rattle.chain_moves.specs.Tests.{first_broken}
+use Rattle.chain_moves.specs.Enter.{is_enter_due, table_address}
+use Rattle.chain_moves.specs.Machine.{Before, Makes, Breaks, unless_broken}
+use Rattle.chain_moves.specs.declared.broken.Broken.{Broken}
+use Rattle.chain_moves.specs.declared.broken.Broken.TheVariants.{HaltInHandler}
 use Rattle.chain_direct.specs.Kind.{Begin}
 use Rattle.chain_direct.specs.Directed.{Direct, Directed}
 use Rattle.chain_direct.specs.DirectBody.{direct_body}

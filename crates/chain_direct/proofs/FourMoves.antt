@@ -16,19 +16,19 @@ use Rattle.hart_board.specs.Attempt.{performed}
 use Rattle.rvc_encoding.specs.Decoding.{decoded}
 use Rattle.hart_board.specs.declared.trap.Trap.{Trap}
 use Rattle.hart_board.specs.declared.event.Event.{Event}
-use Rattle.chain_core.specs.Servicing.{Servicing, marks}
-use Rattle.chain_core.specs.Tests.{first_broken, first_tests, second_tests, access_tests}
-use Rattle.chain_core.specs.Machine.{When, Before, After, Moved, Makes, Breaks, Ends, unless_broken}
-use Rattle.chain_core.specs.Enter.{is_enter_due, table_address}
-use Rattle.chain_core.specs.Body.{hart, with_hart, dead_after, is_long_at}
-use Rattle.chain_core.specs.Moves.{move}
-use Rattle.chain_core.specs.Kinds.{IsMove}
-use Rattle.chain_core.specs.declared.broken.Broken.{Broken}
-use Rattle.chain_core.specs.declared.broken.Broken.TheVariants.{HardVectored}
-use Rattle.chain_core.specs.declared.moves.Move.{Move}
-use Rattle.chain_core.specs.declared.moves.Move.TheVariants.{Enter, Leave, Body}
-use Rattle.chain_core.proofs.OneOfThree.{WhereMade, unless, at_made, move_is, one_is}
-use Rattle.chain_core.proofs.Nested.{passed}
+use Rattle.chain_moves.specs.Servicing.{Servicing, marks}
+use Rattle.chain_moves.specs.Tests.{first_broken, first_tests, second_tests, access_tests}
+use Rattle.chain_moves.specs.Machine.{When, Before, After, Moved, Makes, Breaks, Ends, unless_broken}
+use Rattle.chain_moves.specs.Enter.{is_enter_due, table_address}
+use Rattle.chain_moves.specs.Body.{hart, with_hart, dead_after, is_long_at}
+use Rattle.chain_moves.specs.Moves.{move}
+use Rattle.chain_moves.specs.Kinds.{IsMove}
+use Rattle.chain_moves.specs.declared.broken.Broken.{Broken}
+use Rattle.chain_moves.specs.declared.broken.Broken.TheVariants.{HardVectored}
+use Rattle.chain_moves.specs.declared.moves.Move.{Move}
+use Rattle.chain_moves.specs.declared.moves.Move.TheVariants.{Enter, Leave, Body}
+use Rattle.chain_moves.proofs.OneOfThree.{WhereMade, unless, at_made, move_is, one_is}
+use Rattle.chain_moves.proofs.Nested.{passed}
 use Rattle.chain_direct.specs.Kind.{Kind, Begin, Plain}
 use Rattle.chain_direct.specs.Directed.{Direct, Directed}
 use Rattle.chain_direct.specs.DirectBody.{direct_instruction_tests, ended_tests, with_its_events, direct_performed, direct_made, direct_decoded, direct_fetched, direct_body}

@@ -6,24 +6,24 @@ use Rattle.device_model.specs.Meanings.{Meanings}
 use Rattle.clic_select.specs.Top.{top}
 use Rattle.clic_select.specs.declared.choice.Choice.{Choice}
 use Rattle.hart_board.specs.declared.event.Event.{Event}
-use Rattle.chain_core.specs.Servicing.{Service, Servicing, marks}
-use Rattle.chain_core.specs.Tests.{first_broken, enter_tests}
-use Rattle.chain_core.specs.Enter.{is_enter_due, new_frame, table_address, entered}
-use Rattle.chain_core.specs.Machine.{Before, Moved, Makes, Breaks, Ends, Machine, unless_broken}
-use Rattle.chain_core.specs.Run.{Made, Run, On, Broke, Over, moved_on, gone_on, run_to, Leads, IsRun}
-use Rattle.chain_core.specs.Cost.{is_fused, is_halfway, price, cost}
+use Rattle.chain_moves.specs.Servicing.{Service, Servicing, marks}
+use Rattle.chain_moves.specs.Tests.{first_broken, enter_tests}
+use Rattle.chain_moves.specs.Enter.{is_enter_due, new_frame, table_address, entered}
+use Rattle.chain_moves.specs.Machine.{Before, Moved, Makes, Breaks, Ends, Machine, unless_broken}
+use Rattle.chain_moves.specs.Run.{Made, Run, On, Broke, Over, moved_on, gone_on, run_to, Leads, IsRun}
+use Rattle.chain_moves.specs.Cost.{is_fused, is_halfway, price, cost}
 use Rattle.chain_core.specs.End.{steps_before, steps_needed, end_by, end_of, end_at}
-use Rattle.chain_core.specs.Moves.{move, move_unless_halted, move_by, enter, claims, servicing_machine}
-use Rattle.chain_core.specs.Kinds.{IsMove, LeaveLeaves, BodyLeaves}
-use Rattle.chain_core.specs.declared.broken.Broken.TheVariants.{HardVectored}
-use Rattle.chain_core.specs.declared.dispatcher.Dispatcher.{Dispatcher}
+use Rattle.chain_moves.specs.Moves.{move, move_unless_halted, move_by, enter, claims, servicing_machine}
+use Rattle.chain_moves.specs.Kinds.{IsMove, LeaveLeaves, BodyLeaves}
+use Rattle.chain_moves.specs.declared.broken.Broken.TheVariants.{HardVectored}
+use Rattle.chain_moves.specs.declared.dispatcher.Dispatcher.{Dispatcher}
 use Rattle.chain_core.specs.declared.chain_end.ChainEnd.{ChainEnd}
 use Rattle.chain_core.specs.declared.chain_end.ChainEnd.TheVariants.{Done, BudgetSpent, Broken as BrokenOff}
-use Rattle.chain_core.specs.declared.moves.Move.{Move}
-use Rattle.chain_core.specs.declared.moves.Move.TheVariants.{Enter, Leave, Body}
-use Rattle.chain_core.proofs.OneOfThree.{is_one}
-use Rattle.chain_core.proofs.Alone.{leaves_alone}
-use Rattle.chain_core.proofs.Leading.{is_run, run_is_list, list_is_run}
+use Rattle.chain_moves.specs.declared.moves.Move.{Move}
+use Rattle.chain_moves.specs.declared.moves.Move.TheVariants.{Enter, Leave, Body}
+use Rattle.chain_moves.proofs.OneOfThree.{is_one}
+use Rattle.chain_moves.proofs.Alone.{leaves_alone}
+use Rattle.chain_moves.proofs.Leading.{is_run, run_is_list, list_is_run}
 use Rattle.chain_core.proofs.Ends.{needed_more}
 use Rattle.chain_core.proofs.Bounded.{Late, more_cost, spent_end}
 use Rattle.chain_direct.specs.Kind.{Kind, Plain}

@@ -7,22 +7,22 @@ use Rattle.clic_select.specs.Top.{top}
 use Rattle.clic_select.specs.declared.choice.Choice.{Choice}
 use Rattle.clic_trap.specs.Due.{due}
 use Rattle.hart_board.specs.declared.event.Event.{Event}
-use Rattle.chain_core.specs.Servicing.{Service, Servicing}
-use Rattle.chain_core.specs.Enter.{is_enter_due, entered}
-use Rattle.chain_core.specs.Machine.{When, Before, Within, After, Moved, Makes, Breaks, Ends, Machine}
-use Rattle.chain_core.specs.Run.{Made, Leads}
-use Rattle.chain_core.specs.Cost.{is_halfway, price, cost}
+use Rattle.chain_moves.specs.Servicing.{Service, Servicing}
+use Rattle.chain_moves.specs.Enter.{is_enter_due, entered}
+use Rattle.chain_moves.specs.Machine.{When, Before, Within, After, Moved, Makes, Breaks, Ends, Machine}
+use Rattle.chain_moves.specs.Run.{Made, Leads}
+use Rattle.chain_moves.specs.Cost.{is_halfway, price, cost}
 use Rattle.chain_core.specs.End.{steps_before, steps_needed}
-use Rattle.chain_core.specs.Moves.{move, claims, claims_by, servicing_machine}
-use Rattle.chain_core.specs.Kinds.{IsMove, LeaveLeaves, BodyLeaves}
-use Rattle.chain_core.specs.Beside.{Rest, board_of}
-use Rattle.chain_core.specs.declared.broken.Broken.{Broken}
-use Rattle.chain_core.specs.declared.broken.Broken.TheVariants.{HardVectored}
-use Rattle.chain_core.specs.declared.dispatcher.Dispatcher.{Dispatcher}
-use Rattle.chain_core.specs.declared.moves.Move.{Move}
-use Rattle.chain_core.specs.declared.moves.Move.TheVariants.{Enter, Leave, Body}
-use Rattle.chain_core.proofs.OneOfThree.{is_one}
-use Rattle.chain_core.proofs.Alone.{leaves_alone}
+use Rattle.chain_moves.specs.Moves.{move, claims, claims_by, servicing_machine}
+use Rattle.chain_moves.specs.Kinds.{IsMove, LeaveLeaves, BodyLeaves}
+use Rattle.chain_moves.specs.Beside.{Rest, board_of}
+use Rattle.chain_moves.specs.declared.broken.Broken.{Broken}
+use Rattle.chain_moves.specs.declared.broken.Broken.TheVariants.{HardVectored}
+use Rattle.chain_moves.specs.declared.dispatcher.Dispatcher.{Dispatcher}
+use Rattle.chain_moves.specs.declared.moves.Move.{Move}
+use Rattle.chain_moves.specs.declared.moves.Move.TheVariants.{Enter, Leave, Body}
+use Rattle.chain_moves.proofs.OneOfThree.{is_one}
+use Rattle.chain_moves.proofs.Alone.{leaves_alone}
 use Rattle.chain_core.proofs.Bounded.{Late}
 use Rattle.chain_direct.specs.Kind.{Kind, Plain}
 use Rattle.chain_direct.specs.Directed.{Listed, Directed, as_chained, all_chained, listed_after}

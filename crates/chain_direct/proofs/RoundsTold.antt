@@ -8,11 +8,11 @@ use Rattle.board_outside.proofs.Writing.{then_writes}
 use Rattle.device_model.specs.Meanings.{Meanings}
 use Rattle.clic_select.specs.declared.choice.Choice.{Choice}
 use Rattle.hart_board.specs.declared.event.Event.{Event}
-use Rattle.chain_core.specs.Cost.{body_cost}
+use Rattle.chain_moves.specs.Cost.{body_cost}
 use Rattle.chain_core.specs.Progress.{Progress, goes}
 use Rattle.chain_core.specs.Text.{steps_text, Cut, Tells}
 use Rattle.chain_core.specs.Rounds.{steps_made}
-use Rattle.chain_core.specs.declared.broken.Broken.{Broken}
+use Rattle.chain_moves.specs.declared.broken.Broken.{Broken}
 use Rattle.chain_core.proofs.Told.{nothing_told}
 use Rattle.chain_core.proofs.ChainEnds.{cut_text}
 use Rattle.chain_direct.specs.DirectWatched.{DirectWatched}

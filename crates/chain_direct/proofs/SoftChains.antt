@@ -8,21 +8,21 @@ use Rattle.hart_board.specs.Event.{with_events}
 use Rattle.hart_board.specs.declared.event.Event.{Event}
 use Rattle.hart_board.specs.Steps.{board_at}
 use Rattle.chain_core.specs.ChainRun.{is_body}
-use Rattle.chain_core.specs.Servicing.{Servicing}
-use Rattle.chain_core.specs.Run.{Run, On, Broke, Over, run_to}
-use Rattle.chain_core.specs.Cost.{cost}
+use Rattle.chain_moves.specs.Servicing.{Servicing}
+use Rattle.chain_moves.specs.Run.{Run, On, Broke, Over, run_to}
+use Rattle.chain_moves.specs.Cost.{cost}
 use Rattle.chain_core.specs.End.{end_by, end_of, end_at}
-use Rattle.chain_core.specs.Moves.{servicing_machine}
-use Rattle.chain_core.specs.Start.{begun}
-use Rattle.chain_core.specs.Watched.{Watched, nothing_watched}
+use Rattle.chain_moves.specs.Moves.{servicing_machine}
+use Rattle.chain_moves.specs.Start.{begun}
+use Rattle.chain_moves.specs.Watched.{Watched, nothing_watched}
 use Rattle.chain_core.specs.Progress.{Progress}
 use Rattle.chain_core.specs.Rounds.{round, steps_made}
 use Rattle.chain_core.specs.Text.{report}
 use Rattle.chain_core.specs.Chain.{chain_end, chain_text, board_after, dead_at, dead_in, is_done}
 use Rattle.chain_core.specs.Both.{Starts}
-use Rattle.chain_core.specs.declared.broken.Broken.TheVariants.{HardVectored}
-use Rattle.chain_core.specs.declared.dispatcher.Dispatcher.{Dispatcher}
-use Rattle.chain_core.specs.declared.moves.Move.{Move}
+use Rattle.chain_moves.specs.declared.broken.Broken.TheVariants.{HardVectored}
+use Rattle.chain_moves.specs.declared.dispatcher.Dispatcher.{Dispatcher}
+use Rattle.chain_moves.specs.declared.moves.Move.{Move}
 use Rattle.chain_core.specs.declared.ended.Ended.{Ended}
 use Rattle.chain_core.specs.declared.chain_end.ChainEnd.TheVariants.{Broken as BrokenOff}
 use Rattle.chain_core.specs.declared.round.Round.{Round}

@@ -10,39 +10,39 @@ use Rattle.hart_board.specs.State.{State}
 use Rattle.hart_board.specs.Step.{Turn as StepTurn, tried}
 use Rattle.hart_board.specs.declared.event.Event.{Event}
 use Rattle.hart_report.specs.declared.stepped.Stepped.TheVariants.{Interrupted}
-use Rattle.chain_core.specs.Servicing.{Servicing, marks, innermost_level, is_foreground}
-use Rattle.chain_core.specs.Enter.{is_enter_due, table_address}
-use Rattle.chain_core.specs.Leave.{left}
-use Rattle.chain_core.specs.Moves.{move}
-use Rattle.chain_core.specs.Cost.{is_fused}
+use Rattle.chain_moves.specs.Servicing.{Servicing, marks, innermost_level, is_foreground}
+use Rattle.chain_moves.specs.Enter.{is_enter_due, table_address}
+use Rattle.chain_moves.specs.Leave.{left}
+use Rattle.chain_moves.specs.Moves.{move}
+use Rattle.chain_moves.specs.Cost.{is_fused}
 use Rattle.chain_core.specs.Walk.{Walk}
-use Rattle.chain_core.specs.Tests.{is_lost}
-use Rattle.chain_core.specs.Judge.{claims_above, judge_turn}
-use Rattle.chain_core.specs.Beside.{Rest, board_of}
-use Rattle.chain_core.specs.Related.{Related}
+use Rattle.chain_moves.specs.Tests.{is_lost}
+use Rattle.chain_moves.specs.Judge.{claims_above, judge_turn}
+use Rattle.chain_moves.specs.Beside.{Rest, board_of}
+use Rattle.chain_moves.specs.Related.{Related}
 use Rattle.chain_core.specs.ChainRun.{chained_at}
-use Rattle.chain_core.specs.Watched.{Watched}
+use Rattle.chain_moves.specs.Watched.{Watched}
 use Rattle.chain_core.specs.Progress.{Progress}
 use Rattle.chain_core.specs.Rounds.{round, round_unless_halted, round_due, round_verdict, round_enter, round_leave, round_parted, round_fused, round_body, round_tried, raised_code, retired_round, halted_round, steps_made}
-use Rattle.chain_core.specs.declared.broken.Broken.{Broken}
-use Rattle.chain_core.specs.declared.broken.Broken.TheVariants.{HardVectored}
-use Rattle.chain_core.specs.declared.dispatcher.Dispatcher.{Dispatcher}
-use Rattle.chain_core.specs.declared.dispatcher.Dispatcher.TheVariants.{Looping}
-use Rattle.chain_core.specs.declared.moves.Move.TheVariants.{Leave as LeaveMove}
-use Rattle.chain_core.specs.declared.entry.Entry.{Entry}
-use Rattle.chain_core.specs.declared.entry.Entry.TheVariants.{Refused, Admitted}
-use Rattle.chain_core.specs.declared.verdict.Verdict.{Verdict}
-use Rattle.chain_core.specs.declared.verdict.Verdict.TheVariants.{Refused as BodyRefused, Plain, Reviving}
-use Rattle.chain_core.specs.declared.turn.Turn.{Turn}
-use Rattle.chain_core.specs.declared.turn.Turn.TheVariants.{Enter, Leave, Fuse, Body}
-use Rattle.chain_core.proofs.Nested.{passed}
-use Rattle.chain_core.proofs.Enters.{IsUntested}
-use Rattle.chain_core.proofs.Fused.{claims_after}
+use Rattle.chain_moves.specs.declared.broken.Broken.{Broken}
+use Rattle.chain_moves.specs.declared.broken.Broken.TheVariants.{HardVectored}
+use Rattle.chain_moves.specs.declared.dispatcher.Dispatcher.{Dispatcher}
+use Rattle.chain_moves.specs.declared.dispatcher.Dispatcher.TheVariants.{Looping}
+use Rattle.chain_moves.specs.declared.moves.Move.TheVariants.{Leave as LeaveMove}
+use Rattle.chain_moves.specs.declared.entry.Entry.{Entry}
+use Rattle.chain_moves.specs.declared.entry.Entry.TheVariants.{Refused, Admitted}
+use Rattle.chain_moves.specs.declared.verdict.Verdict.{Verdict}
+use Rattle.chain_moves.specs.declared.verdict.Verdict.TheVariants.{Refused as BodyRefused, Plain, Reviving}
+use Rattle.chain_moves.specs.declared.turn.Turn.{Turn}
+use Rattle.chain_moves.specs.declared.turn.Turn.TheVariants.{Enter, Leave, Fuse, Body}
+use Rattle.chain_moves.proofs.Nested.{passed}
+use Rattle.chain_moves.proofs.Enters.{IsUntested}
+use Rattle.chain_moves.proofs.Fused.{claims_after}
 use Rattle.chain_core.proofs.EnterRuns.{enter_runs}
 use Rattle.chain_core.proofs.LeaveRuns.{leave_told, leave_runs}
 use Rattle.chain_core.proofs.FusedRuns.{mid, five_told, two_told, five_runs, two_runs}
 use Rattle.chain_core.proofs.MoveRuns.{mid_in_run, five_in_run}
-use Rattle.chain_core.proofs.Turns.{Leaves, Fuses, TurnMeans, turn_means}
+use Rattle.chain_moves.proofs.Turns.{Leaves, Fuses, TurnMeans, turn_means}
 use Rattle.chain_core.proofs.Standing.{StoodFrom}
 use Rattle.chain_core.proofs.RoundMeans.{judge_is, same_halt}
 use Rattle.chain_core.proofs.RoundsReturn.{nonzero, looping}

@@ -18,7 +18,7 @@ use Rattle.hart_board.specs.Steps.{board_at, told_at}
 use Rattle.hart_board.specs.declared.event.Event.{Event}
 use Rattle.hart_board.specs.declared.encoding.Encoding.{Encoding}
 use Rattle.hart_board.specs.declared.trap.Trap.{Trap}
-use Rattle.chain_core.specs.Slot.{call}
+use Rattle.chain_moves.specs.Slot.{call}
 use Rattle.chain_core.specs.Walk.{walked}
 use Rattle.chain_core.specs.ChainRun.{is_body, chained_at, read_to}
 use Rattle.chain_core.specs.Progress.{Progress, goes, progress_at}

@@ -2,10 +2,10 @@
 use Rattle.std.specs.Prelude.{true, false, List}
 use Rattle.csr_file.specs.CsrState.{CsrState}
 use Rattle.hart_board.specs.State.{State}
-use Rattle.chain_core.specs.Servicing.{Servicing, marks, innermost_level}
-use Rattle.chain_core.specs.Body.{hart}
-use Rattle.chain_core.specs.Beside.{Rest}
-use Rattle.chain_core.specs.declared.mark.Mark.{Mark}
+use Rattle.chain_moves.specs.Servicing.{Servicing, marks, innermost_level}
+use Rattle.chain_moves.specs.Body.{hart}
+use Rattle.chain_moves.specs.Beside.{Rest}
+use Rattle.chain_moves.specs.declared.mark.Mark.{Mark}
 use Rattle.chain_direct.specs.Directed.{Direct}
 
 -- the fields by the direct service and those of the hart that a body sees: interrupts are off, the level is the service's, and the level and the pc below it are saved

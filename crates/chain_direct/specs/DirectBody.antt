@@ -16,13 +16,13 @@ use Rattle.hart_board.specs.Event.{with_events}
 use Rattle.hart_board.specs.declared.trap.Trap.{Trap}
 use Rattle.hart_board.specs.declared.trap.TheConstants.{FETCH_FAULT, ILLEGAL_INSTRUCTION}
 use Rattle.hart_board.specs.declared.event.Event.{Event}
-use Rattle.chain_core.specs.Servicing.{Servicing, marks}
-use Rattle.chain_core.specs.Tests.{first_broken, first_tests, second_tests, access_tests}
-use Rattle.chain_core.specs.Machine.{Before, Within, After, Moved, Makes, Breaks, unless_broken}
-use Rattle.chain_core.specs.Body.{hart, with_hart, is_long_at, dead_after}
-use Rattle.chain_core.specs.declared.broken.Broken.{Broken}
-use Rattle.chain_core.specs.declared.broken.Broken.TheVariants.{CsrTouched, RegisterLost, Exception}
-use Rattle.chain_core.specs.declared.moves.Move.TheVariants.{Body}
+use Rattle.chain_moves.specs.Servicing.{Servicing, marks}
+use Rattle.chain_moves.specs.Tests.{first_broken, first_tests, second_tests, access_tests}
+use Rattle.chain_moves.specs.Machine.{Before, Within, After, Moved, Makes, Breaks, unless_broken}
+use Rattle.chain_moves.specs.Body.{hart, with_hart, is_long_at, dead_after}
+use Rattle.chain_moves.specs.declared.broken.Broken.{Broken}
+use Rattle.chain_moves.specs.declared.broken.Broken.TheVariants.{CsrTouched, RegisterLost, Exception}
+use Rattle.chain_moves.specs.declared.moves.Move.TheVariants.{Body}
 use Rattle.chain_direct.specs.Directed.{Direct, Directed}
 use Rattle.chain_direct.specs.Kind.{Kind, Plain}
 

@@ -3,13 +3,13 @@ use Rattle.std.specs.Prelude.{◌≡◌, ◌+◌, ◌*◌, ℕ, false, List, sli
 use Rattle.device_model.specs.Meanings.{Meanings}
 use Rattle.hart_board.specs.State.{State}
 use Rattle.hart_board.specs.declared.event.Event.{Event}
-use Rattle.chain_core.specs.Machine.{Ends}
-use Rattle.chain_core.specs.Run.{Made, Leads}
+use Rattle.chain_moves.specs.Machine.{Ends}
+use Rattle.chain_moves.specs.Run.{Made, Leads}
 use Rattle.chain_core.specs.Counts.{counts}
 use Rattle.chain_core.specs.End.{services_within}
 use Rattle.chain_core.specs.Chain.{AgreesWith}
 use Rattle.chain_core.specs.Both.{SameBoards}
-use Rattle.chain_core.specs.declared.dispatcher.Dispatcher.TheVariants.{Looping, Returning}
+use Rattle.chain_moves.specs.declared.dispatcher.Dispatcher.TheVariants.{Looping, Returning}
 use Rattle.chain_direct.specs.Kind.{Kind}
 use Rattle.chain_direct.specs.Directed.{Directed}
 use Rattle.chain_direct.specs.DirectCounts.{as_moves}

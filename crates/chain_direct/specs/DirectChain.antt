@@ -6,10 +6,10 @@ use Rattle.hart_report.specs.Text.{StopsAfter}
 use Rattle.hart_board.specs.State.{State}
 use Rattle.hart_board.specs.Steps.{board_at}
 use Rattle.hart_board.specs.declared.event.Event.{Event}
-use Rattle.chain_core.specs.Run.{Run, On, Broke, Over}
+use Rattle.chain_moves.specs.Run.{Run, On, Broke, Over}
 use Rattle.chain_core.specs.ChainRun.{is_body}
 use Rattle.chain_core.specs.Chain.{AgreesWith}
-use Rattle.chain_core.specs.declared.dispatcher.Dispatcher.{Dispatcher}
+use Rattle.chain_moves.specs.declared.dispatcher.Dispatcher.{Dispatcher}
 use Rattle.chain_core.specs.declared.chain_end.ChainEnd.{ChainEnd}
 use Rattle.chain_core.specs.declared.chain_end.ChainEnd.TheVariants.{Done, BudgetSpent, SinkFailed, Broken}
 use Rattle.chain_direct.specs.Kind.{Kind}

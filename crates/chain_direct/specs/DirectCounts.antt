@@ -1,7 +1,7 @@
 -- How many moves of each of the four kinds a run has made.
 use Rattle.std.specs.Prelude.{ℕ, ◌+◌, List, [], ◌∷◌}
-use Rattle.chain_core.specs.Run.{Made}
-use Rattle.chain_core.specs.declared.moves.Move.{Move}
+use Rattle.chain_moves.specs.Run.{Made}
+use Rattle.chain_moves.specs.declared.moves.Move.{Move}
 use Rattle.chain_direct.specs.Kind.{Kind, Begin, Plain, costs_as}
 
 -- the moves that cost as much

@@ -3,8 +3,8 @@ use Rattle.std.specs.Prelude.{ℕ, true, false, List, [], ◌∷◌, ◌++◌, O
 use Rattle.hart_words.specs.Registers.{register}
 use Rattle.hart_memory.specs.Memory.{zeros}
 use Rattle.clic_regs.specs.ClicState.{ClicState}
-use Rattle.chain_core.specs.Servicing.{Live}
-use Rattle.chain_core.specs.Start.{words_bytes}
+use Rattle.chain_moves.specs.Servicing.{Live}
+use Rattle.chain_moves.specs.Start.{words_bytes}
 use Rattle.chain_core.specs.Example.{clic, start}
 use Rattle.chain_direct.specs.Directed.{Direct, Listed, Directed, beside_none}
 

@@ -9,13 +9,13 @@ use Rattle.hart_memory.specs.declared.fetched.Fetched.TheVariants.{Bits, Missing
 use Rattle.hart_board.specs.State.{State}
 use Rattle.rvc_encoding.specs.Decoding.{decoded}
 use Rattle.hart_board.specs.declared.trap.TheConstants.{FETCH_FAULT, ILLEGAL_INSTRUCTION}
-use Rattle.chain_core.specs.Tests.{first_broken, first_tests, second_tests}
-use Rattle.chain_core.specs.Body.{is_long_at}
-use Rattle.chain_core.specs.Watched.{Watched}
-use Rattle.chain_core.specs.Judge.{judge_effect}
-use Rattle.chain_core.specs.declared.broken.Broken.{Broken}
-use Rattle.chain_core.specs.declared.broken.Broken.TheVariants.{Exception}
-use Rattle.chain_core.specs.declared.verdict.Verdict.TheVariants.{Refused}
+use Rattle.chain_moves.specs.Tests.{first_broken, first_tests, second_tests}
+use Rattle.chain_moves.specs.Body.{is_long_at}
+use Rattle.chain_moves.specs.Watched.{Watched}
+use Rattle.chain_moves.specs.Judge.{judge_effect}
+use Rattle.chain_moves.specs.declared.broken.Broken.{Broken}
+use Rattle.chain_moves.specs.declared.broken.Broken.TheVariants.{Exception}
+use Rattle.chain_moves.specs.declared.verdict.Verdict.TheVariants.{Refused}
 use Rattle.chain_direct.specs.DirectBody.{direct_instruction_tests}
 use Rattle.chain_direct.specs.declared.direct_verdict.DirectVerdict.{DirectVerdict}
 use Rattle.chain_direct.specs.declared.direct_verdict.DirectVerdict.TheVariants.{Ends, Goes}

@@ -4,13 +4,13 @@ use Rattle.device_model.specs.Meanings.{Meanings}
 use Rattle.clic_select.specs.Top.{top}
 use Rattle.clic_select.specs.declared.choice.Choice.{Choice}
 use Rattle.hart_board.specs.declared.event.Event.{Event}
-use Rattle.chain_core.specs.Servicing.{Servicing}
-use Rattle.chain_core.specs.Tests.{first_broken}
-use Rattle.chain_core.specs.Enter.{is_enter_due, table_address}
-use Rattle.chain_core.specs.Machine.{Makes}
-use Rattle.chain_core.specs.Kinds.{IsMove}
-use Rattle.chain_core.specs.declared.moves.Move.{Move}
-use Rattle.chain_core.specs.declared.moves.Move.TheVariants.{Body}
+use Rattle.chain_moves.specs.Servicing.{Servicing}
+use Rattle.chain_moves.specs.Tests.{first_broken}
+use Rattle.chain_moves.specs.Enter.{is_enter_due, table_address}
+use Rattle.chain_moves.specs.Machine.{Makes}
+use Rattle.chain_moves.specs.Kinds.{IsMove}
+use Rattle.chain_moves.specs.declared.moves.Move.{Move}
+use Rattle.chain_moves.specs.declared.moves.Move.TheVariants.{Body}
 use Rattle.chain_direct.specs.Directed.{Direct, Directed, listed_after}
 use Rattle.chain_direct.specs.Kind.{Kind, Begin, Plain}
 use Rattle.chain_direct.specs.DirectBody.{direct_body}

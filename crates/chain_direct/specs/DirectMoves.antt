@@ -8,16 +8,16 @@ use Rattle.clic_select.specs.Top.{top}
 use Rattle.clic_select.specs.declared.choice.Choice.{Choice}
 use Rattle.hart_board.specs.State.{State}
 use Rattle.hart_board.specs.declared.event.Event.{Event}
-use Rattle.chain_core.specs.Servicing.{Servicing}
-use Rattle.chain_core.specs.Bytes.{some_byte, is_hidden}
-use Rattle.chain_core.specs.Tests.{first_broken}
-use Rattle.chain_core.specs.Enter.{is_enter_due, table_address, table_word}
-use Rattle.chain_core.specs.Moves.{move, claims}
-use Rattle.chain_core.specs.Machine.{Before, Moved, Makes, Breaks, Ends, Machine, unless_broken}
-use Rattle.chain_core.specs.Start.{begun}
-use Rattle.chain_core.specs.declared.broken.Broken.{Broken}
-use Rattle.chain_core.specs.declared.broken.Broken.TheVariants.{BadTable, HaltInHandler}
-use Rattle.chain_core.specs.declared.moves.Move.{Move}
+use Rattle.chain_moves.specs.Servicing.{Servicing}
+use Rattle.chain_moves.specs.Bytes.{some_byte, is_hidden}
+use Rattle.chain_moves.specs.Tests.{first_broken}
+use Rattle.chain_moves.specs.Enter.{is_enter_due, table_address, table_word}
+use Rattle.chain_moves.specs.Moves.{move, claims}
+use Rattle.chain_moves.specs.Machine.{Before, Moved, Makes, Breaks, Ends, Machine, unless_broken}
+use Rattle.chain_moves.specs.Start.{begun}
+use Rattle.chain_moves.specs.declared.broken.Broken.{Broken}
+use Rattle.chain_moves.specs.declared.broken.Broken.TheVariants.{BadTable, HaltInHandler}
+use Rattle.chain_moves.specs.declared.moves.Move.{Move}
 use Rattle.chain_direct.specs.Directed.{Direct, Listed, Directed, is_alone, listed_after, beside_none}
 use Rattle.chain_direct.specs.Kind.{Kind, Begin, Plain, costs_as}
 use Rattle.chain_direct.specs.DirectBody.{direct_body}

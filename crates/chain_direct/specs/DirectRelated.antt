@@ -2,11 +2,11 @@
 use Rattle.std.specs.Prelude.{◌≡◌, ◌%◌, ◌^◌, ◌<◌, true}
 use Rattle.hart_words.specs.Registers.{AreRegisters}
 use Rattle.device_model.specs.Meanings.{Meanings}
-use Rattle.chain_core.specs.Servicing.{Servicing, marks, innermost_level}
-use Rattle.chain_core.specs.Enter.{takes_interrupts}
-use Rattle.chain_core.specs.Beside.{Rest}
-use Rattle.chain_core.specs.Related.{Serves, Stands}
-use Rattle.chain_core.specs.declared.dispatcher.Dispatcher.{Dispatcher}
+use Rattle.chain_moves.specs.Servicing.{Servicing, marks, innermost_level}
+use Rattle.chain_moves.specs.Enter.{takes_interrupts}
+use Rattle.chain_moves.specs.Beside.{Rest}
+use Rattle.chain_moves.specs.Related.{Serves, Stands}
+use Rattle.chain_moves.specs.declared.dispatcher.Dispatcher.{Dispatcher}
 use Rattle.chain_direct.specs.Directed.{Direct}
 
 -- the state that the service suspended, with memory, dead bytes and all outside as they are now

@@ -9,20 +9,20 @@ use Rattle.clic_trap.specs.Due.{due}
 use Rattle.hart_board.specs.State.{State}
 use Rattle.hart_board.specs.Step.{Turn, tried}
 use Rattle.hart_board.specs.declared.event.Event.{Event}
-use Rattle.chain_core.specs.Bytes.{revived_at}
-use Rattle.chain_core.specs.Tests.{first_broken}
-use Rattle.chain_core.specs.Enter.{table_address}
-use Rattle.chain_core.specs.Cost.{body_cost}
+use Rattle.chain_moves.specs.Bytes.{revived_at}
+use Rattle.chain_moves.specs.Tests.{first_broken}
+use Rattle.chain_moves.specs.Enter.{table_address}
+use Rattle.chain_moves.specs.Cost.{body_cost}
 use Rattle.chain_core.specs.Progress.{Progress, goes}
 use Rattle.chain_core.specs.Text.{steps_text, Tells}
 use Rattle.chain_core.specs.Rounds.{Rounded, raised_code, tried_by, steps_made, round}
-use Rattle.chain_core.specs.declared.broken.Broken.{Broken}
-use Rattle.chain_core.specs.declared.broken.Broken.TheVariants.{RegisterLost, Exception, HaltInHandler}
-use Rattle.chain_core.specs.declared.dispatcher.Dispatcher.{Dispatcher}
+use Rattle.chain_moves.specs.declared.broken.Broken.{Broken}
+use Rattle.chain_moves.specs.declared.broken.Broken.TheVariants.{RegisterLost, Exception, HaltInHandler}
+use Rattle.chain_moves.specs.declared.dispatcher.Dispatcher.{Dispatcher}
 use Rattle.chain_core.specs.declared.round.Round.{Round}
 use Rattle.chain_core.specs.declared.round.Round.TheVariants.{Made, Failed, Ended, Spent}
-use Rattle.chain_core.specs.declared.verdict.Verdict.{Verdict}
-use Rattle.chain_core.specs.declared.verdict.Verdict.TheVariants.{Refused, Plain, Reviving}
+use Rattle.chain_moves.specs.declared.verdict.Verdict.{Verdict}
+use Rattle.chain_moves.specs.declared.verdict.Verdict.TheVariants.{Refused, Plain, Reviving}
 use Rattle.chain_direct.specs.DirectWatched.{DirectWatched, with_direct, without_direct, with_dead, with_chained}
 use Rattle.chain_direct.specs.DirectBody.{are_same}
 use Rattle.chain_direct.specs.DirectMoves.{begin_tests}

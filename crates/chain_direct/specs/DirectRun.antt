@@ -9,7 +9,7 @@ use Rattle.hart_board.specs.Steps.{board_at}
 use Rattle.hart_board.specs.declared.event.Event.{Event}
 use Rattle.hart_report.specs.declared.stepped.Stepped.{Stepped}
 use Rattle.hart_report.specs.declared.stepped.Stepped.TheVariants.{Retired, Interrupted}
-use Rattle.chain_core.specs.Slot.{call}
+use Rattle.chain_moves.specs.Slot.{call}
 use Rattle.chain_core.specs.ChainRun.{is_body, read_to}
 use Rattle.chain_direct.specs.Directed.{Listed, as_chained}
 

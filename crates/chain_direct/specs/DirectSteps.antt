@@ -11,15 +11,15 @@ use Rattle.hart_board.specs.Event.{with_events}
 use Rattle.hart_board.specs.declared.event.Event.{Event}
 use Rattle.hart_board.specs.declared.trap.Trap.{Trap}
 use Rattle.hart_board.specs.declared.encoding.Encoding.{Encoding}
-use Rattle.chain_core.specs.Slot.{in_slot}
-use Rattle.chain_core.specs.Bytes.{revived_at}
-use Rattle.chain_core.specs.Machine.{Before, Within, After, Makes, Breaks}
-use Rattle.chain_core.specs.Beside.{Rest, board_of}
-use Rattle.chain_core.specs.Related.{Related}
-use Rattle.chain_core.specs.declared.broken.Broken.TheVariants.{RegisterLost, Exception}
-use Rattle.chain_core.specs.declared.dispatcher.Dispatcher.{Dispatcher}
-use Rattle.chain_core.specs.declared.moves.Move.TheVariants.{Body}
-use Rattle.chain_core.specs.declared.verdict.Verdict.TheVariants.{Refused, Plain as Quiet, Reviving}
+use Rattle.chain_moves.specs.Slot.{in_slot}
+use Rattle.chain_moves.specs.Bytes.{revived_at}
+use Rattle.chain_moves.specs.Machine.{Before, Within, After, Makes, Breaks}
+use Rattle.chain_moves.specs.Beside.{Rest, board_of}
+use Rattle.chain_moves.specs.Related.{Related}
+use Rattle.chain_moves.specs.declared.broken.Broken.TheVariants.{RegisterLost, Exception}
+use Rattle.chain_moves.specs.declared.dispatcher.Dispatcher.{Dispatcher}
+use Rattle.chain_moves.specs.declared.moves.Move.TheVariants.{Body}
+use Rattle.chain_moves.specs.declared.verdict.Verdict.TheVariants.{Refused, Plain as Quiet, Reviving}
 use Rattle.chain_direct.specs.Kind.{Begin, Plain}
 use Rattle.chain_direct.specs.Directed.{Direct, Directed}
 use Rattle.chain_direct.specs.DirectBody.{are_same, direct_body}

@@ -7,13 +7,13 @@ use Rattle.hart_board.specs.State.{State}
 use Rattle.hart_board.specs.Step.{step}
 use Rattle.hart_board.specs.Steps.{board_at}
 use Rattle.hart_board.specs.declared.event.Event.{Event}
-use Rattle.chain_core.specs.Servicing.{Service}
-use Rattle.chain_core.specs.Run.{Run, On, Broke, Over, run_to}
+use Rattle.chain_moves.specs.Servicing.{Service}
+use Rattle.chain_moves.specs.Run.{Run, On, Broke, Over, run_to}
 use Rattle.chain_core.specs.End.{end_at}
 use Rattle.chain_core.specs.declared.ended.Ended.{Ended}
 use Rattle.chain_core.specs.Text.{service_line, report}
 use Rattle.chain_core.specs.ChainRun.{is_body}
-use Rattle.chain_core.specs.declared.dispatcher.Dispatcher.{Dispatcher}
+use Rattle.chain_moves.specs.declared.dispatcher.Dispatcher.{Dispatcher}
 use Rattle.chain_direct.specs.Kind.{Kind}
 use Rattle.chain_direct.specs.Directed.{Listed, Directed}
 use Rattle.chain_direct.specs.DirectMoves.{direct_machine, direct_start}

@@ -1,6 +1,6 @@
 -- What a chain with direct services keeps beside the board.
 use Rattle.std.specs.Prelude.{ℕ, ◌+◌, Bool, List, Option, Some, None}
-use Rattle.chain_core.specs.Watched.{Watched, nothing_watched}
+use Rattle.chain_moves.specs.Watched.{Watched, nothing_watched}
 
 -- what is kept of the chained services, the registers as the direct service began that is live, where one is, and how many there were
 pub record DirectWatched : Type 0 where

@@ -1,8 +1,8 @@
 -- The state of the servicing machine beside which a hardware-vectored input may have a service of its own.
 use Rattle.std.specs.Prelude.{ℕ, suc, Bool, true, false, List, [], ◌∷◌, ◌++◌, length, Option, Some, None}
-use Rattle.chain_core.specs.Servicing.{Live, Service, Servicing}
-use Rattle.chain_core.specs.declared.moves.Move.{Move}
-use Rattle.chain_core.specs.declared.moves.Move.TheVariants.{Enter, Leave, Body}
+use Rattle.chain_moves.specs.Servicing.{Live, Service, Servicing}
+use Rattle.chain_moves.specs.declared.moves.Move.{Move}
+use Rattle.chain_moves.specs.declared.moves.Move.TheVariants.{Enter, Leave, Body}
 
 -- a direct service that is live: its number and level, the pc that it suspended, and the registers as it began
 pub record Direct : Type 0 where

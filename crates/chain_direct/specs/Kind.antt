@@ -1,6 +1,6 @@
 -- The four moves: those of the servicing machine, and that a direct service begins.
-use Rattle.chain_core.specs.declared.moves.Move.{Move}
-use Rattle.chain_core.specs.declared.moves.Move.TheVariants.{Body}
+use Rattle.chain_moves.specs.declared.moves.Move.{Move}
+use Rattle.chain_moves.specs.declared.moves.Move.TheVariants.{Body}
 
 pub data Kind : Type 0 where
   Begin : Kind

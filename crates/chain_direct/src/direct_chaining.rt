@@ -1,7 +1,7 @@
 // A chain with direct services to its end.
 ghost use Rattle.std.specs.Prelude.{◌≡◌, ◌+◌, ◌<◌, ◌^◌, true, is_ok, IfOk, IfErr, IsTrue};
 ghost use Rattle.board_outside.specs.Sink.{Writes};
-ghost use Rattle.chain_core.specs.Words.{HasDispatcher};
+ghost use Rattle.chain_moves.specs.Words.{HasDispatcher};
 ghost use Rattle.chain_core.specs.End.{services_within};
 ghost use Rattle.chain_core.specs.Text.{report};
 ghost use Rattle.chain_core.specs.Chain.{is_whole, is_done};
@@ -15,7 +15,8 @@ use crate::direct_rounds::direct_round;
 use crate::direct_watch::DirectWatch;
 use board_outside::{Sink, SinkFault};
 use chain_core::ending::put_report;
-use chain_core::{ChainEnd, Course, Dispatcher, Ended, Round};
+use chain_core::{ChainEnd, Course, Ended, Round};
+use chain_moves::Dispatcher;
 use device_model::Device;
 use hart_board::laws::kept_states_stay;
 use hart_board::{Board, Events, take_due};

@@ -4,9 +4,9 @@ ghost use Rattle.hart_words.specs.Registers.{register};
 ghost use Rattle.hart_memory.specs.Fetch.{HasLength};
 ghost use Rattle.hart_exec.specs.Effect.{effect as effect_of};
 ghost use Rattle.hart_board.specs.State.{State};
-ghost use Rattle.chain_core.specs.Tests.{first_broken};
-ghost use Rattle.chain_core.specs.Enter.{table_address};
-ghost use Rattle.chain_core.specs.Judge.{HasBytes};
+ghost use Rattle.chain_moves.specs.Tests.{first_broken};
+ghost use Rattle.chain_moves.specs.Enter.{table_address};
+ghost use Rattle.chain_moves.specs.Judge.{HasBytes};
 ghost use Rattle.chain_direct.specs.DirectBody.{direct_instruction_tests, are_same};
 ghost use Rattle.chain_direct.specs.DirectJudge.{direct_or, judge_direct_made, judge_direct_fetched, judge_direct_body};
 ghost use Rattle.chain_direct.specs.DirectMoves.{begin_tests};
@@ -14,7 +14,7 @@ ghost use Rattle.chain_direct.specs.DirectRounds.{hard_due};
 
 use crate::direct_verdict::DirectVerdict;
 use crate::direct_watch::DirectWatch;
-use chain_core::{Broken, Verdict, Watch, is_long, table_address};
+use chain_moves::{Broken, Verdict, Watch, is_long, table_address};
 use clic_select::Choice;
 use clic_trap::due;
 use device_model::Device;
@@ -26,7 +26,7 @@ use rv_encoding::Ins;
 use rvc_encoding::decode_bits;
 
 /// The tests of a direct service that begins, by the address of its word in the table.
-#[tactic(auto, unfolding(chain_core::specs::Tests::first_broken))]
+#[tactic(auto, unfolding(chain_moves::specs::Tests::first_broken))]
 pub fn test_word(watch: &Watch, at: u32) -> Option<Broken>
     ensures { result ≡ first_broken (begin_tests watch.now.dead at) }
 {
@@ -67,7 +67,7 @@ pub fn are_same(kept: &[u32; 32], registers: &Regs) -> bool
 }
 
 // The tests of an instruction that is spelled, and of what it asks for.
-#[tactic(auto, unfolding(chain_core::specs::Tests::first_broken))]
+#[tactic(auto, unfolding(chain_moves::specs::Tests::first_broken))]
 fn judge_instruction(watch: &Watch, ins: &Ins, effect: Effect) -> DirectVerdict
     requires { HasBytes effect }
     ensures { (b : State) (length : ℕ) → effect ≡ effect_of ins.now length b.registers b.pc → result ≡ direct_or (first_broken (direct_instruction_tests ins.now)) (judge_direct_made b watch.now length ins.now) }

@@ -1,5 +1,5 @@
 // What the tests of an instruction of a direct service come to.
-use chain_core::Verdict;
+use chain_moves::Verdict;
 
 /// Whether the instruction is the MRET that ends the service, or else what a body's tests say of it.
 #[derive(Clone, Copy, Debug, PartialEq, Eq, Drop)]

@@ -2,7 +2,7 @@
 ghost use Rattle.std.specs.Prelude.{◌≡◌, ◌+◌, ◌<◌, ◌^◌, Some, None, IfOk};
 ghost use Rattle.chain_direct.specs.DirectWatched.{DirectWatched, nothing_direct, with_direct, without_direct};
 
-use chain_core::Watch;
+use chain_moves::Watch;
 use hart_words::WantOfMemory;
 use std::alloc::Global;
 use std::marker::Model;

@@ -1,7 +1,7 @@
 use crate::direct_judging::{are_same, test_word};
 use crate::direct_telling::put_direct;
 use board_outside::MemorySink;
-use chain_core::{Broken, Watch};
+use chain_moves::{Broken, Watch};
 use hart_words::Regs;
 use std::test::Fail;
 

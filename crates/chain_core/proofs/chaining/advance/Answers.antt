@@ -3,7 +3,7 @@ use Rattle.std.proofs.lemmas.Result.{err_from_is_err_and}
 use Rattle.hart_board.specs.State.{State}
 use Rattle.hart_board.specs.Event.{AreEventsFrom}
 use Rattle.clic_regs.specs.Shape.{ClicShape}
-use Rattle.chain_core.specs.Start.{begun}
+use Rattle.chain_moves.specs.Start.{begun}
 use Rattle.chain_core.specs.Text.{Tells}
 use Rattle.hart_board.proofs.Shapes.{events_have}
 use Rattle.chain_core.specs.Progress.{Progress, progress_of}

@@ -3,7 +3,7 @@ use Rattle.board_outside.proofs.Writing.{then_writes, stops_writing}
 use Rattle.hart_memory.specs.Memory.{Memory}
 use Rattle.hart_report.specs.Contents.{output_part, ram_part}
 use Rattle.hart_report.proofs.Texts.{stopped, same_text}
-use Rattle.chain_core.specs.Bytes.{is_dead}
+use Rattle.chain_moves.specs.Bytes.{is_dead}
 use Rattle.chain_core.specs.Text.{board_part}
 use Rattle.chain_core.proofs.ending.put_board.Goals as goal
 

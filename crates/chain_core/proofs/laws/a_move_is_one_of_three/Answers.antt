@@ -1,4 +1,4 @@
-use Rattle.chain_core.proofs.OneOfThree.{alone, is_one, one_is}
+use Rattle.chain_moves.proofs.OneOfThree.{alone, is_one, one_is}
 use Rattle.chain_core.proofs.laws.a_move_is_one_of_three.Goals as goal
 
 pub returns-clause-is : goal.returns-clause-is

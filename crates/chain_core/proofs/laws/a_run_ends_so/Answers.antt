@@ -1,5 +1,5 @@
 use Rattle.chain_core.proofs.Ends.{ends_so, only_so}
-use Rattle.chain_core.specs.Moves.{servicing_machine}
+use Rattle.chain_moves.specs.Moves.{servicing_machine}
 use Rattle.chain_core.proofs.laws.a_run_ends_so.Goals as goal
 
 pub returns-clause-is : goal.returns-clause-is

@@ -1,5 +1,5 @@
-use Rattle.chain_core.proofs.Leading.{is_run, list_is_run}
-use Rattle.chain_core.specs.Moves.{servicing_machine}
+use Rattle.chain_moves.proofs.Leading.{is_run, list_is_run}
+use Rattle.chain_moves.specs.Moves.{servicing_machine}
 use Rattle.chain_core.proofs.laws.a_run_is_a_list_of_moves.Goals as goal
 
 pub returns-clause-is : goal.returns-clause-is

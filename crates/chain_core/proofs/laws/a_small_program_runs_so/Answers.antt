@@ -12,15 +12,15 @@ use Rattle.clic_trap.specs.System.{system}
 use Rattle.hart_board.specs.Access.{load, store}
 use Rattle.hart_board.specs.Attempt.{performed}
 use Rattle.hart_board.specs.Event.{arrived_outside, events_outside, with_events}
-use Rattle.chain_core.specs.Servicing.{marks}
-use Rattle.chain_core.specs.Bytes.{some_byte, in_live_frame, marked}
-use Rattle.chain_core.specs.Tests.{first_broken, are_kept, is_lost}
-use Rattle.chain_core.specs.Enter.{is_enter_due, table_word, enter_registers, entered}
-use Rattle.chain_core.specs.Leave.{leave_registers, left}
-use Rattle.chain_core.specs.Body.{body}
-use Rattle.chain_core.specs.Run.{run_to}
-use Rattle.chain_core.specs.Moves.{move, claims}
-use Rattle.chain_core.specs.Start.{words_bytes}
+use Rattle.chain_moves.specs.Servicing.{marks}
+use Rattle.chain_moves.specs.Bytes.{some_byte, in_live_frame, marked}
+use Rattle.chain_moves.specs.Tests.{first_broken, are_kept, is_lost}
+use Rattle.chain_moves.specs.Enter.{is_enter_due, table_word, enter_registers, entered}
+use Rattle.chain_moves.specs.Leave.{leave_registers, left}
+use Rattle.chain_moves.specs.Body.{body}
+use Rattle.chain_moves.specs.Run.{run_to}
+use Rattle.chain_moves.specs.Moves.{move, claims}
+use Rattle.chain_moves.specs.Start.{words_bytes}
 use Rattle.chain_core.specs.Example.{nothing, halted, rom, clic, start, at_ecall, in_handler, events, shown}
 use Rattle.chain_core.proofs.laws.a_small_program_runs_so.Goals as goal
 

@@ -1,4 +1,4 @@
-use Rattle.chain_core.proofs.Alone.{leaves_alone}
+use Rattle.chain_moves.proofs.Alone.{leaves_alone}
 use Rattle.chain_core.proofs.laws.moves_leave_the_rest.Goals as goal
 
 pub returns : goal.returns

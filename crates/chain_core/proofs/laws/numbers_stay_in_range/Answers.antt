@@ -1,5 +1,5 @@
 use Rattle.std.proofs.Common.{refl}
-use Rattle.chain_core.proofs.Depth.{start_range, run_range}
+use Rattle.chain_moves.proofs.Depth.{start_range, run_range}
 use Rattle.chain_core.proofs.laws.numbers_stay_in_range.Goals as goal
 
 pub returns-clause-start : goal.returns-clause-start

@@ -1,5 +1,5 @@
 use Rattle.chain_core.proofs.Listing.{listed_so}
-use Rattle.chain_core.specs.Moves.{servicing_machine}
+use Rattle.chain_moves.specs.Moves.{servicing_machine}
 use Rattle.chain_core.proofs.laws.services_are_listed.Goals as goal
 
 pub returns : goal.returns

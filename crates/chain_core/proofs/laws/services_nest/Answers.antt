@@ -1,4 +1,4 @@
-use Rattle.chain_core.proofs.Nested.{depth_below, run_nests}
+use Rattle.chain_moves.proofs.Nested.{depth_below, run_nests}
 use Rattle.chain_core.proofs.laws.services_nest.Goals as goal
 
 pub returns-clause-rising : goal.returns-clause-rising

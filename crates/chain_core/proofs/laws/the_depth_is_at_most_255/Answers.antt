@@ -1,4 +1,4 @@
-use Rattle.chain_core.proofs.Depth.{depth_small}
+use Rattle.chain_moves.proofs.Depth.{depth_small}
 use Rattle.chain_core.proofs.laws.the_depth_is_at_most_255.Goals as goal
 
 pub returns : goal.returns

@@ -1,10 +1,10 @@
 use Rattle.std.proofs.Common.{◌≡◌, true, sym, ap, ◌∙◌, subst}
 use Rattle.std.specs.Prelude.{IfOk, is_ok}
 use Rattle.chain_core.specs.Progress.{progress_of}
-use Rattle.chain_core.specs.Ready.{verdict_of}
+use Rattle.chain_moves.specs.Ready.{verdict_of}
 use Rattle.chain_core.specs.Rounds.{Rounded, round_verdict, steps_made}
 use Rattle.chain_core.specs.Text.{Tells}
-use Rattle.chain_core.specs.declared.verdict.Verdict.{Verdict}
+use Rattle.chain_moves.specs.declared.verdict.Verdict.{Verdict}
 use Rattle.chain_core.proofs.Told.{nothing_told, body_rounded}
 use Rattle.chain_core.proofs.rounds.carry_judged.Goals as goal
 

@@ -1,6 +1,6 @@
 use Rattle.std.proofs.Common.{ap, ◌∙◌}
-use Rattle.chain_core.specs.Ready.{turn_of}
-use Rattle.chain_core.specs.declared.turn.Turn.TheVariants.{Enter, Fuse}
+use Rattle.chain_moves.specs.Ready.{turn_of}
+use Rattle.chain_moves.specs.declared.turn.Turn.TheVariants.{Enter, Fuse}
 use Rattle.chain_core.proofs.rounds.make.Goals as goal
 
 pub enter-requires-clause-fits : goal.enter-requires-clause-fits

@@ -3,7 +3,7 @@ use Rattle.std.specs.Prelude.{IfOk, is_ok}
 use Rattle.chain_core.specs.Progress.{progress_of}
 use Rattle.chain_core.specs.Rounds.{Rounded, steps_made}
 use Rattle.chain_core.specs.Text.{Tells}
-use Rattle.chain_core.proofs.Opened.{body_turn}
+use Rattle.chain_moves.proofs.Opened.{body_turn}
 use Rattle.chain_core.proofs.Told.{halted_told, body_runs}
 use Rattle.chain_core.proofs.rounds.round.Goals as goal
 

@@ -1,8 +1,8 @@
 use Rattle.std.proofs.Common.{◌≡◌, nat_le, ap, subst}
 use Rattle.std.specs.Prelude.{List, Bool, IfOk}
-use Rattle.chain_core.specs.Cost.{body_cost}
+use Rattle.chain_moves.specs.Cost.{body_cost}
 use Rattle.chain_core.specs.Progress.{progress_of}
-use Rattle.chain_core.specs.Watched.{Watched}
+use Rattle.chain_moves.specs.Watched.{Watched}
 use Rattle.chain_core.proofs.Told.{nothing_told, nothing_revived}
 use Rattle.chain_direct.specs.DirectRounds.{round_direct_body}
 use Rattle.chain_direct.proofs.direct_rounds.go_on.Goals as goal

@@ -1,4 +1,4 @@
-use Rattle.chain_core.proofs.Leading.{is_run, list_is_run}
+use Rattle.chain_moves.proofs.Leading.{is_run, list_is_run}
 use Rattle.chain_direct.specs.DirectMoves.{direct_machine}
 use Rattle.chain_direct.proofs.laws.a_run_is_a_list_of_moves.Goals as goal
 

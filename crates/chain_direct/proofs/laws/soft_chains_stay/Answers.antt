@@ -1,4 +1,4 @@
-use Rattle.chain_core.specs.Start.{begun}
+use Rattle.chain_moves.specs.Start.{begun}
 use Rattle.chain_direct.proofs.NothingDirect.{same_end}
 use Rattle.chain_direct.proofs.SoftChains.{same_text}
 use Rattle.chain_direct.proofs.laws.soft_chains_stay.Goals as goal

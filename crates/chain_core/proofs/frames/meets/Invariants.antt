@@ -1,7 +1,0 @@
-use Rattle.std.proofs.Common.{◌≡◌, drop, reverse}
-use Rattle.chain_core.specs.Bytes.{some_byte}
-use Rattle.chain_core.specs.Bytes.{in_live_frame}
-use Rattle.chain_core.proofs.frames.meets.Given as goal
-
-abbrev pub invariant-loop-m : goal.invariant-loop-m
-invariant-loop-m l = some_byte (in_live_frame (drop l.m-index l.marks)) l.at l.count ≡ some_byte (in_live_frame (reverse l.marks)) l.at l.count
