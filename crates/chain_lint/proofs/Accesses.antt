@@ -22,9 +22,9 @@ use Rattle.hart_board.specs.State.{Outside, State}
 use Rattle.hart_board.specs.Region.{region as region_of}
 use Rattle.hart_board.specs.Outside.{loaded_in, stored_in}
 use Rattle.hart_board.specs.Access.{load, load_at, load_answer, store, store_at, store_answer}
-use Rattle.chain_core.specs.Slot.{in_slot}
-use Rattle.chain_core.specs.declared.mark.Mark.{Mark}
-use Rattle.chain_core.specs.Bytes.{some_byte, is_dead, is_hidden, in_live_frame, marked, revived_at}
+use Rattle.chain_moves.specs.Slot.{in_slot}
+use Rattle.chain_moves.specs.declared.mark.Mark.{Mark}
+use Rattle.chain_moves.specs.Bytes.{some_byte, is_dead, is_hidden, in_live_frame, marked, revived_at}
 use Rattle.chain_lint.specs.Flow.{Value, Entry, Const, Stack, Unknown, StackWord, Flow, value_of, depth, found, with_stack_word}
 use Rattle.chain_lint.specs.Transfer.{loaded_value, stored_words, value_or_unknown}
 use Rattle.chain_lint.specs.Rules.{first_why, access_rules_at, is_bad_stack, is_bad_const, is_own_word, is_absent, in_region}

@@ -18,17 +18,17 @@ use Rattle.hart_board.specs.Event.{with_events}
 use Rattle.hart_board.specs.declared.event.Event.{Event}
 use Rattle.hart_board.specs.declared.trap.Trap.{Trap}
 use Rattle.hart_board.specs.declared.trap.TheConstants.{FETCH_FAULT}
-use Rattle.chain_core.specs.Slot.{back, in_slot}
-use Rattle.chain_core.specs.Servicing.{Live, Servicing, marks, is_foreground}
-use Rattle.chain_core.specs.Bytes.{some_byte, is_dead, is_hidden}
-use Rattle.chain_core.specs.Tests.{first_broken, first_tests, second_tests, instruction_tests, access_tests, return_tests, is_free, are_kept, is_lost}
-use Rattle.chain_core.specs.Enter.{word_or_zero}
-use Rattle.chain_core.specs.Body.{hart, with_hart, is_long_at, dead_after, retired, performed_by, decoded_by, fetched_by as body_fetched, body}
-use Rattle.chain_core.specs.Convention.{is_permitted}
-use Rattle.chain_core.specs.Machine.{Before, After, Makes}
-use Rattle.chain_core.specs.declared.broken.Broken.{Broken}
-use Rattle.chain_core.specs.declared.broken.Broken.TheVariants.{CsrTouched, RegisterLost, ReadsDispatch, EnteredDispatch, Exception}
-use Rattle.chain_core.specs.declared.moves.Move.TheVariants.{Body}
+use Rattle.chain_moves.specs.Slot.{back, in_slot}
+use Rattle.chain_moves.specs.Servicing.{Live, Servicing, marks, is_foreground}
+use Rattle.chain_moves.specs.Bytes.{some_byte, is_dead, is_hidden}
+use Rattle.chain_moves.specs.Tests.{first_broken, first_tests, second_tests, instruction_tests, access_tests, return_tests, is_free, are_kept, is_lost}
+use Rattle.chain_moves.specs.Enter.{word_or_zero}
+use Rattle.chain_moves.specs.Body.{hart, with_hart, is_long_at, dead_after, retired, performed_by, decoded_by, fetched_by as body_fetched, body}
+use Rattle.chain_moves.specs.Convention.{is_permitted}
+use Rattle.chain_moves.specs.Machine.{Before, After, Makes}
+use Rattle.chain_moves.specs.declared.broken.Broken.{Broken}
+use Rattle.chain_moves.specs.declared.broken.Broken.TheVariants.{CsrTouched, RegisterLost, ReadsDispatch, EnteredDispatch, Exception}
+use Rattle.chain_moves.specs.declared.moves.Move.TheVariants.{Body}
 use Rattle.chain_lint.specs.Flow.{Flow, value_of}
 use Rattle.chain_lint.specs.Transfer.{flow_after}
 use Rattle.chain_lint.specs.Rules.{is_bad_half, is_outside, is_other_system}

@@ -8,17 +8,17 @@ use Rattle.hart_words.specs.Registers.{register}
 use Rattle.device_model.specs.Meanings.{Meanings}
 use Rattle.clic_select.specs.declared.choice.Choice.{Choice}
 use Rattle.hart_board.specs.declared.event.Event.{Event}
-use Rattle.chain_core.specs.Servicing.{Live, Servicing, marks, innermost_level}
-use Rattle.chain_core.specs.Enter.{is_enter_due, entered, new_frame, pointer}
-use Rattle.chain_core.specs.Machine.{Makes}
-use Rattle.chain_core.specs.Moves.{move}
-use Rattle.chain_core.specs.Kinds.{IsMoveBy}
-use Rattle.chain_core.specs.Ranges.{AreSuspended, IsInRange}
-use Rattle.chain_core.specs.declared.moves.Move.{Move}
-use Rattle.chain_core.specs.declared.moves.Move.TheVariants.{Enter, Leave, Body}
-use Rattle.chain_core.proofs.Alone.{leaves_alone}
-use Rattle.chain_core.proofs.Nested.{above}
-use Rattle.chain_core.proofs.OneOfThree.{is_one}
+use Rattle.chain_moves.specs.Servicing.{Live, Servicing, marks, innermost_level}
+use Rattle.chain_moves.specs.Enter.{is_enter_due, entered, new_frame, pointer}
+use Rattle.chain_moves.specs.Machine.{Makes}
+use Rattle.chain_moves.specs.Moves.{move}
+use Rattle.chain_moves.specs.Kinds.{IsMoveBy}
+use Rattle.chain_moves.specs.Ranges.{AreSuspended, IsInRange}
+use Rattle.chain_moves.specs.declared.moves.Move.{Move}
+use Rattle.chain_moves.specs.declared.moves.Move.TheVariants.{Enter, Leave, Body}
+use Rattle.chain_moves.proofs.Alone.{leaves_alone}
+use Rattle.chain_moves.proofs.Nested.{above}
+use Rattle.chain_moves.proofs.OneOfThree.{is_one}
 use Rattle.chain_lint.specs.Bound.{Use, level_cost, bound_below, bound}
 use Rattle.chain_lint.specs.Soundness.{IsSafe, IsBounded, AreAccepted}
 use Rattle.chain_lint.specs.declared.region.Region.{Region}

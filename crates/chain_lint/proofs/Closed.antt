@@ -3,9 +3,9 @@ use Rattle.std.proofs.Common.{◌≡◌, ℕ, zero, suc, List, [], refl, subst, 
 use Rattle.device_model.specs.Meanings.{Meanings, IsSound}
 use Rattle.hart_board.specs.State.{State}
 use Rattle.hart_board.specs.declared.event.Event.{Event}
-use Rattle.chain_core.specs.Servicing.{Servicing}
-use Rattle.chain_core.specs.Moves.{servicing_machine}
-use Rattle.chain_core.specs.Start.{begun}
+use Rattle.chain_moves.specs.Servicing.{Servicing}
+use Rattle.chain_moves.specs.Moves.{servicing_machine}
+use Rattle.chain_moves.specs.Start.{begun}
 use Rattle.chain_lint.specs.Bound.{Use}
 use Rattle.chain_lint.specs.Soundness.{Premises, IsAfter, AcceptsTo, YesIsSound, IsListedTo, BoundIsSound, ListedIsSafe}
 use Rattle.chain_lint.specs.declared.region.Region.{Region}

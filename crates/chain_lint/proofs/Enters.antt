@@ -10,10 +10,10 @@ use Rattle.hart_memory.specs.declared.address_map.TheConstants.{RAM_BASE}
 use Rattle.device_model.specs.Meanings.{Meanings}
 use Rattle.clic_select.specs.declared.choice.Choice.{Choice}
 use Rattle.hart_board.specs.declared.event.Event.{Event}
-use Rattle.chain_core.specs.Servicing.{Live, Servicing, marks}
-use Rattle.chain_core.specs.Bytes.{is_dead, marked}
-use Rattle.chain_core.specs.Enter.{new_frame, pointer, pointer_by, table_address, table_word, enter_registers, entered}
-use Rattle.chain_core.specs.Leave.{raised_pointer}
+use Rattle.chain_moves.specs.Servicing.{Live, Servicing, marks}
+use Rattle.chain_moves.specs.Bytes.{is_dead, marked}
+use Rattle.chain_moves.specs.Enter.{new_frame, pointer, pointer_by, table_address, table_word, enter_registers, entered}
+use Rattle.chain_moves.specs.Leave.{raised_pointer}
 use Rattle.chain_lint.specs.Flow.{Entry, Const, Stack, value_of, flow_at_start, entries}
 use Rattle.chain_lint.specs.Rules.{in_region}
 use Rattle.chain_lint.specs.Walk.{verdict}
@@ -22,8 +22,8 @@ use Rattle.chain_lint.proofs.Values.{Holds, AreWords}
 use Rattle.chain_lint.proofs.Marking.{marked_other}
 use Rattle.chain_lint.proofs.Words.{Stays}
 use Rattle.chain_lint.proofs.Handlers.{IsFramed, Knows}
-use Rattle.chain_core.proofs.Registers.{enters, leave-enter}
-use Rattle.chain_core.proofs.Depth.{enter_are, table_small}
+use Rattle.chain_moves.proofs.Registers.{enters, leave-enter}
+use Rattle.chain_moves.proofs.Depth.{enter_are, table_small}
 use Rattle.chain_lint.proofs.Services.{Runs, Suspended, Services, resumed, runs_stay, suspended_stays}
 use Rattle.chain_lint.proofs.Invariant.{Inv, Keeps}
 

@@ -6,9 +6,9 @@ use Rattle.hart_words.specs.TwosComplement.{word}
 use Rattle.hart_words.specs.Registers.{register, with_register}
 use Rattle.hart_memory.specs.declared.address_map.TheConstants.{RAM_BASE, BANK_LEN}
 use Rattle.hart_board.specs.State.{State}
-use Rattle.chain_core.specs.Slot.{back}
-use Rattle.chain_core.specs.Bytes.{is_dead}
-use Rattle.chain_core.specs.Tests.{is_free}
+use Rattle.chain_moves.specs.Slot.{back}
+use Rattle.chain_moves.specs.Bytes.{is_dead}
+use Rattle.chain_moves.specs.Tests.{is_free}
 use Rattle.chain_lint.specs.Flow.{Value, Entry, Const, Stack, Unknown, StackWord, Flow, value_of, set_value, depth}
 use Rattle.chain_lint.specs.Transfer.{words_kept}
 use Rattle.chain_lint.specs.Rules.{is_bad_pointer}

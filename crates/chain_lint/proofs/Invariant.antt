@@ -4,12 +4,12 @@ use Rattle.std.proofs.Common.{◌≡◌, ℕ, true, List, [], ◌∷◌, Option,
 use Rattle.device_model.specs.Meanings.{Meanings}
 use Rattle.hart_board.specs.State.{State}
 use Rattle.hart_board.specs.Valid.{IsBoard}
-use Rattle.chain_core.specs.Servicing.{Live, Servicing}
-use Rattle.chain_core.specs.Bytes.{is_dead}
-use Rattle.chain_core.specs.Machine.{When, Moved, Makes, Breaks, Ends, unless_broken}
-use Rattle.chain_core.specs.Ranges.{IsInRange}
-use Rattle.chain_core.specs.declared.broken.Broken.{Broken}
-use Rattle.chain_core.specs.declared.moves.Move.{Move}
+use Rattle.chain_moves.specs.Servicing.{Live, Servicing}
+use Rattle.chain_moves.specs.Bytes.{is_dead}
+use Rattle.chain_moves.specs.Machine.{When, Moved, Makes, Breaks, Ends, unless_broken}
+use Rattle.chain_moves.specs.Ranges.{IsInRange}
+use Rattle.chain_moves.specs.declared.broken.Broken.{Broken}
+use Rattle.chain_moves.specs.declared.moves.Move.{Move}
 use Rattle.chain_lint.specs.Rules.{in_region}
 use Rattle.chain_lint.specs.Soundness.{HasCode}
 use Rattle.chain_lint.specs.declared.region.Region.{Region}

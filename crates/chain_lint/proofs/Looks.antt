@@ -16,8 +16,8 @@ use Rattle.hart_memory.specs.declared.address_map.TheConstants.{BANK_LEN}
 pub use Rattle.hart_memory.proofs.PlaceLemmas.{place_rom}
 use Rattle.hart_memory.proofs.NumberLemmas.{number_same}
 use Rattle.rvc_encoding.specs.Decoding.{decoded}
-use Rattle.chain_core.specs.Slot.{in_slot, back}
-use Rattle.chain_core.specs.Bytes.{some_byte}
+use Rattle.chain_moves.specs.Slot.{in_slot, back}
+use Rattle.chain_moves.specs.Bytes.{some_byte}
 use Rattle.chain_lint.specs.Flow.{Flow, value_of}
 use Rattle.chain_lint.specs.Transfer.{flow_after, targets}
 use Rattle.chain_lint.specs.Rules.{first_why, or_why, Passed, looked, looked_code, looked_fetched, looked_ins, looked_by, broken_rule, is_outside, is_bad_half, is_other_system, goes_back, is_unknown_target, access_rules, is_bad_pointer, is_changed}

@@ -1,11 +1,11 @@
 -- Marks of dead bytes, and tests of several bytes.
-pub use Rattle.chain_core.proofs.Marking.{none_of, marked_other}
+pub use Rattle.chain_moves.proofs.Marking.{none_of, marked_other}
 use Rattle.std.proofs.Common.{◌≡◌, ℕ, zero, suc, ◌+◌, ◌-◌, ◌<◌, ◌≤◌, ⊎_elim, Bool, true, false, List, length, get_or, set, refl, sym, ap, ◌∙◌, subst, arith}
 use Rattle.std.specs.Prelude.{nat_le, slice_index_or}
 use Rattle.std.proofs.lemmas.List.{get_or-set_same, get_or-set_other, set_past, get_or_past}
 use Rattle.std.proofs.lemmas.Bool.{cases_eq, cases_lt, or_from, and_right, and_from, le-leb, false≢true, false_from_ne_true}
 use Rattle.hart_memory.specs.declared.address_map.TheConstants.{RAM_BASE}
-use Rattle.chain_core.specs.Bytes.{some_byte, is_dead, marked}
+use Rattle.chain_moves.specs.Bytes.{some_byte, is_dead, marked}
 
 -- ---- tests of several bytes
 pub none_from : (test : ℕ → Bool) (at n : ℕ) → ((j : ℕ) → at ≤ j → j < at + n → test j ≡ false) → some_byte test at n ≡ false

@@ -19,20 +19,20 @@ use Rattle.rvc_encoding.specs.Decoding.{decoded}
 use Rattle.hart_board.specs.Event.{with_events}
 use Rattle.hart_board.specs.declared.event.Event.{Event}
 use Rattle.hart_board.specs.declared.trap.Trap.{Trap}
-use Rattle.chain_core.specs.Slot.{back}
-use Rattle.chain_core.specs.Servicing.{Live, Servicing, marks}
-use Rattle.chain_core.specs.Tests.{first_broken, enter_tests, first_tests, second_tests, instruction_tests, access_tests, return_tests}
-use Rattle.chain_core.specs.Enter.{is_enter_due, entered, new_frame, table_address}
-use Rattle.chain_core.specs.Leave.{left, leave_registers, raised_pointer}
-use Rattle.chain_core.specs.Body.{hart, with_hart, is_long_at, dead_after, retired, performed_by, decoded_by, body}
-use Rattle.chain_core.specs.Body.{fetched_by as body_fetched}
-use Rattle.chain_core.specs.Machine.{When, Before, After, Moved, Makes, Breaks, Ends, unless_broken}
-use Rattle.chain_core.specs.Moves.{move, move_unless_halted, move_by, leave_or_body, halted_with, enter}
-use Rattle.chain_core.specs.Ranges.{IsInRange}
-use Rattle.chain_core.specs.declared.broken.Broken.{Broken}
-use Rattle.chain_core.specs.declared.broken.Broken.TheVariants.{HardVectored, NoDispatcher, StackBad, BadTable}
-use Rattle.chain_core.specs.declared.moves.Move.{Move}
-use Rattle.chain_core.specs.declared.moves.Move.TheVariants.{Enter, Body}
+use Rattle.chain_moves.specs.Slot.{back}
+use Rattle.chain_moves.specs.Servicing.{Live, Servicing, marks}
+use Rattle.chain_moves.specs.Tests.{first_broken, enter_tests, first_tests, second_tests, instruction_tests, access_tests, return_tests}
+use Rattle.chain_moves.specs.Enter.{is_enter_due, entered, new_frame, table_address}
+use Rattle.chain_moves.specs.Leave.{left, leave_registers, raised_pointer}
+use Rattle.chain_moves.specs.Body.{hart, with_hart, is_long_at, dead_after, retired, performed_by, decoded_by, body}
+use Rattle.chain_moves.specs.Body.{fetched_by as body_fetched}
+use Rattle.chain_moves.specs.Machine.{When, Before, After, Moved, Makes, Breaks, Ends, unless_broken}
+use Rattle.chain_moves.specs.Moves.{move, move_unless_halted, move_by, leave_or_body, halted_with, enter}
+use Rattle.chain_moves.specs.Ranges.{IsInRange}
+use Rattle.chain_moves.specs.declared.broken.Broken.{Broken}
+use Rattle.chain_moves.specs.declared.broken.Broken.TheVariants.{HardVectored, NoDispatcher, StackBad, BadTable}
+use Rattle.chain_moves.specs.declared.moves.Move.{Move}
+use Rattle.chain_moves.specs.declared.moves.Move.TheVariants.{Enter, Body}
 use Rattle.chain_lint.specs.Walk.{verdict}
 use Rattle.chain_lint.specs.Soundness.{IsSafe}
 use Rattle.chain_lint.specs.declared.region.Region.{Region}

@@ -22,13 +22,13 @@ use Rattle.hart_board.specs.State.{State}
 use Rattle.hart_board.specs.Access.{load, store}
 use Rattle.hart_board.specs.Attempt.{performed, after_load, after_store}
 use Rattle.hart_board.specs.declared.trap.Trap.{Trap}
-use Rattle.chain_core.specs.Slot.{back}
-use Rattle.chain_core.specs.Servicing.{Servicing, marks}
-use Rattle.chain_core.specs.Bytes.{is_dead, in_live_frame, revived_at}
-use Rattle.chain_core.specs.Tests.{first_broken, access_tests, is_free}
-use Rattle.chain_core.specs.declared.broken.Broken.{Broken}
-use Rattle.chain_core.specs.declared.broken.Broken.TheVariants.{ReadsDispatch, WritesFrame}
-use Rattle.chain_core.specs.Body.{hart, dead_after}
+use Rattle.chain_moves.specs.Slot.{back}
+use Rattle.chain_moves.specs.Servicing.{Servicing, marks}
+use Rattle.chain_moves.specs.Bytes.{is_dead, in_live_frame, revived_at}
+use Rattle.chain_moves.specs.Tests.{first_broken, access_tests, is_free}
+use Rattle.chain_moves.specs.declared.broken.Broken.{Broken}
+use Rattle.chain_moves.specs.declared.broken.Broken.TheVariants.{ReadsDispatch, WritesFrame}
+use Rattle.chain_moves.specs.Body.{hart, dead_after}
 use Rattle.chain_lint.specs.Flow.{Value, Entry, Const, Stack, Unknown, StackWord, Flow, value_of, set_value}
 use Rattle.chain_lint.specs.Transfer.{plus, address_of, immediate_value, sum_value, loaded_value, stored_words, words_kept, flow_after, targets}
 use Rattle.chain_lint.specs.Rules.{is_return, is_return_address, are_entries, is_entry, in_region, is_bad_pointer}

@@ -2,10 +2,10 @@
 use Rattle.std.proofs.Common.{◌≡◌, ℕ, ◌<◌, false, List, length, sym, ◌∙◌}
 use Rattle.std.proofs.lemmas.Bool.{ne_eqb, or_from}
 use Rattle.hart_words.specs.Registers.{register}
-use Rattle.chain_core.specs.Servicing.{Live}
-use Rattle.chain_core.specs.Leave.{leave_registers}
-use Rattle.chain_core.specs.Tests.{is_free}
-use Rattle.chain_core.proofs.Registers.{brings, same_registers}
+use Rattle.chain_moves.specs.Servicing.{Live}
+use Rattle.chain_moves.specs.Leave.{leave_registers}
+use Rattle.chain_moves.specs.Tests.{is_free}
+use Rattle.chain_moves.proofs.Registers.{brings, same_registers}
 
 not_free : (r : ℕ) → (r ≡ 1 → ⊥) → (r ≡ 10 → ⊥) → (r ≡ 11 → ⊥) → is_free r ≡ false
 not_free r n1 n10 n11 = or_from _ _ (ne_eqb r 1 n1) (or_from _ _ (ne_eqb r 10 n10) (ne_eqb r 11 n11))

@@ -10,10 +10,10 @@ use Rattle.hart_board.specs.Attempt.{performed}
 use Rattle.hart_board.specs.declared.event.Event.{Event}
 use Rattle.hart_board.specs.declared.trap.Trap.{Trap}
 use Rattle.hart_board.proofs.Keeping.{Of}
-use Rattle.chain_core.specs.Servicing.{Servicing}
-use Rattle.chain_core.specs.Bytes.{is_dead}
-use Rattle.chain_core.specs.Body.{hart, dead_after}
-use Rattle.chain_core.proofs.OneOfThree.{rom_stays}
+use Rattle.chain_moves.specs.Servicing.{Servicing}
+use Rattle.chain_moves.specs.Bytes.{is_dead}
+use Rattle.chain_moves.specs.Body.{hart, dead_after}
+use Rattle.chain_moves.proofs.OneOfThree.{rom_stays}
 use Rattle.chain_lint.proofs.Accesses.{revived_dead}
 
 abbrev HasRom : List ℕ → State → Type 0

@@ -1,7 +1,7 @@
 -- The states that a run comes to.
 use Rattle.std.proofs.Common.{◌≡◌, ℕ, zero, suc, List, Option, Some, refl}
-use Rattle.chain_core.specs.Machine.{Moved, Makes, Breaks, Ends, Machine}
-use Rattle.chain_core.specs.Run.{Made, Run, On, Broke, Over, moved_on, gone_on, run_to, state_in, after_moves}
+use Rattle.chain_moves.specs.Machine.{Moved, Makes, Breaks, Ends, Machine}
+use Rattle.chain_moves.specs.Run.{Made, Run, On, Broke, Over, moved_on, gone_on, run_to, state_in, after_moves}
 
 -- a move led to it
 pub record Before {K S E : Type 0} (x : Machine K S E) (o : Option S) (t : S) : Type 0 where

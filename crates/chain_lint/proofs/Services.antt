@@ -7,9 +7,9 @@ use Rattle.std.proofs.lemmas.Bool.{leb-true, ltb-true, le-leb, lt-ltb, and_parts
 use Rattle.hart_words.specs.TwosComplement.{word}
 use Rattle.hart_words.specs.Registers.{register}
 use Rattle.hart_memory.specs.declared.address_map.TheConstants.{RAM_BASE, BANK_LEN}
-use Rattle.chain_core.specs.Servicing.{Live, marks}
-use Rattle.chain_core.specs.Bytes.{in_frame, in_live_frame}
-use Rattle.chain_core.specs.Leave.{leave_registers, raised_pointer}
+use Rattle.chain_moves.specs.Servicing.{Live, marks}
+use Rattle.chain_moves.specs.Bytes.{in_frame, in_live_frame}
+use Rattle.chain_moves.specs.Leave.{leave_registers, raised_pointer}
 use Rattle.chain_lint.specs.Flow.{Flow}
 use Rattle.chain_lint.specs.Rules.{in_region}
 use Rattle.chain_lint.specs.Walk.{Reached, walk, verdict}

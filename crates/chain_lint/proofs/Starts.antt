@@ -8,13 +8,13 @@ use Rattle.hart_memory.specs.declared.address_map.TheConstants.{RAM_BASE, BANK_L
 use Rattle.hart_board.specs.State.{State}
 use Rattle.hart_board.specs.Event.{with_events}
 use Rattle.hart_board.specs.declared.event.Event.{Event}
-use Rattle.chain_core.specs.Slot.{base, slot_end}
-use Rattle.chain_core.specs.Servicing.{Servicing}
-use Rattle.chain_core.specs.Ranges.{IsInRange}
-use Rattle.chain_core.specs.Start.{begun, none_dead}
-use Rattle.chain_core.specs.Moves.{servicing_machine}
-use Rattle.chain_core.proofs.Begun.{slot_same, begun_inputs}
-use Rattle.chain_core.proofs.Depth.{start_range, run_range, length-zeros}
+use Rattle.chain_moves.specs.Slot.{base, slot_end}
+use Rattle.chain_moves.specs.Servicing.{Servicing}
+use Rattle.chain_moves.specs.Ranges.{IsInRange}
+use Rattle.chain_moves.specs.Start.{begun, none_dead}
+use Rattle.chain_moves.specs.Moves.{servicing_machine}
+use Rattle.chain_moves.proofs.Begun.{slot_same, begun_inputs}
+use Rattle.chain_moves.proofs.Depth.{start_range, run_range, length-zeros}
 use Rattle.chain_lint.specs.Soundness.{Premises, IsAfter}
 use Rattle.chain_lint.specs.declared.region.Region.{Region}
 use Rattle.chain_lint.proofs.Invariant.{Inv}

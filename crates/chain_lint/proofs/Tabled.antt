@@ -10,8 +10,8 @@ use Rattle.hart_memory.specs.Access.{loaded, loaded_by}
 use Rattle.hart_memory.specs.declared.address_map.TheConstants.{BANK_LEN}
 use Rattle.hart_memory.specs.declared.place.Place.TheVariants.{InRom}
 use Rattle.hart_memory.proofs.PlaceLemmas.{place_rom}
-use Rattle.chain_core.specs.Slot.{in_slot}
-use Rattle.chain_core.specs.Bytes.{some_byte}
+use Rattle.chain_moves.specs.Slot.{in_slot}
+use Rattle.chain_moves.specs.Bytes.{some_byte}
 use Rattle.chain_lint.specs.Walk.{verdict}
 use Rattle.chain_lint.specs.Bound.{Use, bound}
 use Rattle.chain_lint.specs.Tables.{word_place, is_bad_word, IsWordAt, by_word, by_verdict, table_bound}

@@ -5,7 +5,7 @@ use Rattle.std.proofs.lemmas.Bool.{and_parts, or_cases, cases_lt, cond_both, eqb
 use Rattle.hart_memory.specs.Bytes.{number_at, with_number}
 use Rattle.hart_memory.specs.declared.address_map.TheConstants.{RAM_BASE, BANK_LEN}
 use Rattle.hart_memory.proofs.NumberLemmas.{number_same, number-with_number_apart, number-with_number_same}
-use Rattle.chain_core.specs.Bytes.{is_dead, marked}
+use Rattle.chain_moves.specs.Bytes.{is_dead, marked}
 use Rattle.chain_lint.specs.Flow.{Value, StackWord, depth, found, is_same, is_pair, stands_in, joined_words, without, with_stack_word, words_above}
 use Rattle.chain_lint.proofs.Values.{Holds, same}
 use Rattle.chain_lint.proofs.Marking.{marked_stays, marked_here, alive_from, alive_at}

@@ -1,6 +1,6 @@
 -- How much stack handlers at several levels use together.
 use Rattle.std.specs.Prelude.{◌≤◌, ℕ, zero, suc, ◌+◌, ◌==◌, max, List, [], ◌∷◌, if◌then◌else◌}
-use Rattle.chain_core.specs.Slot.{frame_size}
+use Rattle.chain_moves.specs.Slot.{frame_size}
 pub use Rattle.chain_lint.specs.declared.uses.Use.{Use}
 
 -- a frame with the greatest uses at a level, or 0 where the list has no such level

@@ -10,8 +10,8 @@ use Rattle.hart_memory.specs.Fetch.{fetched, is_long}
 use Rattle.hart_memory.specs.declared.fetched.Fetched.{Fetched}
 use Rattle.hart_memory.specs.declared.fetched.Fetched.TheVariants.{Bits, Missing}
 use Rattle.rvc_encoding.specs.Decoding.{decoded}
-use Rattle.chain_core.specs.Slot.{in_slot}
-use Rattle.chain_core.specs.Bytes.{some_byte}
+use Rattle.chain_moves.specs.Slot.{in_slot}
+use Rattle.chain_moves.specs.Bytes.{some_byte}
 use Rattle.chain_lint.specs.Flow.{Value, Entry, Const, Stack, Flow, value_of, depth, found}
 use Rattle.chain_lint.specs.Transfer.{address_of, flow_after, targets}
 use Rattle.chain_lint.specs.declared.region.Region.{Region}

@@ -8,15 +8,15 @@ use Rattle.hart_board.specs.State.{State}
 use Rattle.hart_board.specs.Valid.{IsBoard}
 use Rattle.hart_board.specs.Event.{AreEventsFrom}
 use Rattle.hart_board.specs.declared.event.Event.{Event}
-use Rattle.chain_core.specs.Slot.{in_slot, frame_size}
-use Rattle.chain_core.specs.Servicing.{Live, Servicing}
-use Rattle.chain_core.specs.Enter.{pointer}
-use Rattle.chain_core.specs.Machine.{When, Breaks}
-use Rattle.chain_core.specs.Run.{after_moves}
-use Rattle.chain_core.specs.Moves.{move, servicing_machine}
-use Rattle.chain_core.specs.Start.{begun}
-use Rattle.chain_core.specs.declared.broken.Broken.{Broken}
-use Rattle.chain_core.specs.declared.broken.Broken.TheVariants.{CsrTouched, RegisterLost, ReadsDispatch, WritesFrame}
+use Rattle.chain_moves.specs.Slot.{in_slot, frame_size}
+use Rattle.chain_moves.specs.Servicing.{Live, Servicing}
+use Rattle.chain_moves.specs.Enter.{pointer}
+use Rattle.chain_moves.specs.Machine.{When, Breaks}
+use Rattle.chain_moves.specs.Run.{after_moves}
+use Rattle.chain_moves.specs.Moves.{move, servicing_machine}
+use Rattle.chain_moves.specs.Start.{begun}
+use Rattle.chain_moves.specs.declared.broken.Broken.{Broken}
+use Rattle.chain_moves.specs.declared.broken.Broken.TheVariants.{CsrTouched, RegisterLost, ReadsDispatch, WritesFrame}
 use Rattle.chain_lint.specs.Walk.{verdict}
 use Rattle.chain_lint.specs.Bound.{Use, bound}
 use Rattle.chain_lint.specs.declared.region.Region.{Region}

@@ -3,8 +3,8 @@ use Rattle.std.specs.Prelude.{◌≡◌, ◌≤◌, ℕ, ◌+◌, ◌*◌, Bool,
 use Rattle.hart_exec.specs.Effect.{even}
 use Rattle.hart_memory.specs.Bytes.{number_at}
 use Rattle.hart_memory.specs.Place.{is_in_rom}
-use Rattle.chain_core.specs.Slot.{in_slot}
-use Rattle.chain_core.specs.Bytes.{some_byte}
+use Rattle.chain_moves.specs.Slot.{in_slot}
+use Rattle.chain_moves.specs.Bytes.{some_byte}
 use Rattle.chain_lint.specs.Walk.{verdict}
 use Rattle.chain_lint.specs.Bound.{Use, bound}
 use Rattle.chain_lint.specs.declared.region.Region.{Region}

@@ -1,7 +1,7 @@
 // The bound of the stack that handlers use together.
 ghost use Rattle.std.specs.Prelude.{◌≡◌, ◌≤◌, ◌<◌, ◌*◌};
 ghost use Rattle.std.specs.List.{All};
-ghost use Rattle.chain_core.specs.Slot.{frame_size};
+ghost use Rattle.chain_moves.specs.Slot.{frame_size};
 ghost use Rattle.chain_lint.specs.Bound.{IsUse, level_cost as level_cost_of, bound};
 
 use crate::uses::Use;

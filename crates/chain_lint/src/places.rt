@@ -1,7 +1,7 @@
 // Whether bytes lie in a region.
 ghost use Rattle.std.specs.Prelude.{◌≡◌, ◌+◌, ◌≤◌, ◌^◌};
-ghost use Rattle.chain_core.specs.Slot.{in_slot};
-ghost use Rattle.chain_core.specs.Bytes.{some_byte};
+ghost use Rattle.chain_moves.specs.Slot.{in_slot};
+ghost use Rattle.chain_moves.specs.Bytes.{some_byte};
 ghost use Rattle.chain_lint.specs.Rules.{in_region};
 
 use crate::region::Region;

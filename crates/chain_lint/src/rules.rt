@@ -1,7 +1,7 @@
 // The rules at one address.
 ghost use Rattle.std.specs.Prelude.{◌≡◌, ◌<◌, ◌||◌, ◌&&◌, ◌==◌, nat_le, IsTrue};
 ghost use Rattle.rv_encoding.specs.Fits.{can_be_spelled};
-ghost use Rattle.chain_core.specs.Bytes.{some_byte};
+ghost use Rattle.chain_moves.specs.Bytes.{some_byte};
 ghost use Rattle.chain_lint.specs.Flow.{value_of, found, depth};
 ghost use Rattle.chain_lint.specs.Rules.{is_other_system as is_other_system_of, goes_back as goes_back_of, is_return as is_return_of, is_return_address as is_return_address_of, is_unknown_target as is_unknown_target_of, is_unknown_address as is_unknown_address_of, is_own_word as is_own_word_of, is_absent, is_bad_stack as is_bad_stack_of, is_bad_const as is_bad_const_of, access_rules_at, access_rules, is_bad_pointer as is_bad_pointer_of, is_free as is_free_of, is_entry as is_entry_of, are_entries as are_entries_of, is_changed as is_changed_of, rules_before, first_why};
 

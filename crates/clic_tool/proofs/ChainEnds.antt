@@ -5,17 +5,17 @@ use Rattle.board_outside.specs.Sink.{SinkView, Writes}
 use Rattle.hart_memory.specs.Image.{SegmentView, ImageView}
 use Rattle.hart_board.specs.State.{State}
 use Rattle.hart_board.specs.Event.{EventList}
-use Rattle.chain_core.specs.Slot.{base, slot_end, is_covered, IsLeastTaken}
+use Rattle.chain_moves.specs.Slot.{base, slot_end, is_covered, IsLeastTaken}
 use Rattle.chain_core.specs.Chain.{chain_end, is_whole}
 use Rattle.chain_core.specs.End.{EndsAs}
-use Rattle.chain_core.specs.Moves.{servicing_machine}
-use Rattle.chain_core.specs.Start.{begun}
-use Rattle.chain_core.specs.declared.dispatcher.Dispatcher.{Dispatcher}
-use Rattle.chain_core.specs.declared.broken.Broken.{Broken as BrokenBy}
+use Rattle.chain_moves.specs.Moves.{servicing_machine}
+use Rattle.chain_moves.specs.Start.{begun}
+use Rattle.chain_moves.specs.declared.dispatcher.Dispatcher.{Dispatcher}
+use Rattle.chain_moves.specs.declared.broken.Broken.{Broken as BrokenBy}
 use Rattle.chain_core.specs.declared.chain_end.ChainEnd.{ChainEnd}
 use Rattle.chain_core.specs.declared.chain_end.ChainEnd.TheVariants.{Done as done, BudgetSpent as budget_spent, SinkFailed as sink_failed, Broken as broken}
 use Rattle.chain_core.proofs.Ends.{ends_so}
-use Rattle.chain_core.specs.Machine.{Machine}
+use Rattle.chain_moves.specs.Machine.{Machine}
 use Rattle.chain_direct.specs.DirectMoves.{direct_machine, direct_start}
 use Rattle.chain_direct.specs.DirectText.{direct_end}
 use Rattle.device_model.specs.Meanings.{Meanings}

@@ -5,8 +5,8 @@ use Rattle.board_outside.specs.Sink.{SinkView, Writes}
 use Rattle.hart_board.specs.State.{State}
 use Rattle.hart_board.specs.Event.{EventList}
 use Rattle.chain_core.specs.Chain.{chain_end, board_after}
-use Rattle.chain_core.specs.declared.dispatcher.Dispatcher.{Dispatcher}
-use Rattle.chain_core.specs.declared.dispatcher.Dispatcher.TheVariants.{Looping, Returning}
+use Rattle.chain_moves.specs.declared.dispatcher.Dispatcher.{Dispatcher}
+use Rattle.chain_moves.specs.declared.dispatcher.Dispatcher.TheVariants.{Looping, Returning}
 use Rattle.chain_core.specs.declared.chain_end.ChainEnd.{ChainEnd}
 use Rattle.chain_core.specs.declared.chain_end.ChainEnd.TheVariants.{Done as done, BudgetSpent as budget_spent, SinkFailed as sink_failed, Broken as broken}
 use Rattle.tool_frame.specs.Due.{at_once, worked}

@@ -5,7 +5,7 @@ use Rattle.board_outside.specs.Shelf.{ShelfView}
 use Rattle.board_outside.specs.Sink.{SinkView}
 use Rattle.hart_board.specs.declared.run_end.RunEnd.{RunEnd}
 use Rattle.hart_board.specs.declared.run_end.RunEnd.TheVariants.{Halted, BudgetSpent as run_spent, VectorFault as vector_fault}
-use Rattle.chain_core.specs.declared.broken.Broken.{Broken as BrokenBy}
+use Rattle.chain_moves.specs.declared.broken.Broken.{Broken as BrokenBy}
 use Rattle.chain_core.specs.declared.chain_end.ChainEnd.{ChainEnd}
 use Rattle.chain_core.specs.declared.chain_end.ChainEnd.TheVariants.{Done as done, BudgetSpent as chain_spent, Broken as broken}
 use Rattle.tool_frame.specs.Due.{Due}

@@ -2,7 +2,7 @@
 use Rattle.std.proofs.Common.{◌≡◌, ◌∙◌, ℕ, ◌+◌, ◌<◌, ◌≤◌, List, [], ◌++◌, length, drop, slice_index, append_assoc, append-nil, sym, ap}
 use Rattle.std.proofs.lemmas.List.{drop_more, drop_all}
 use Rattle.std.specs.Int.{to_le_bytes, w32}
-use Rattle.chain_core.specs.Start.{words_bytes}
+use Rattle.chain_moves.specs.Start.{words_bytes}
 
 pub one_word : (words : List ℕ) (i : ℕ) (text more : List ℕ) → i < length words → more ≡ text ++ to_le_bytes w32 (slice_index words i) → text ++ words_bytes (drop i words) ≡ words_bytes words → more ++ words_bytes (drop (i + 1) words) ≡ words_bytes words
 unfolding words_bytes

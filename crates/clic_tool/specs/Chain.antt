@@ -7,15 +7,15 @@ use Rattle.hart_memory.specs.Image.{SegmentView, ImageView}
 use Rattle.hart_board.specs.State.{State}
 use Rattle.hart_board.specs.Event.{EventList}
 use Rattle.board_inputs.specs.ImageLoading.{loaded}
-use Rattle.chain_core.specs.Slot.{base, slot_end, is_covered}
-use Rattle.chain_core.specs.Start.{installed, begun}
-use Rattle.chain_core.specs.Moves.{servicing_machine}
+use Rattle.chain_moves.specs.Slot.{base, slot_end, is_covered}
+use Rattle.chain_moves.specs.Start.{installed, begun}
+use Rattle.chain_moves.specs.Moves.{servicing_machine}
 use Rattle.chain_core.specs.ChainRun.{read_to}
 use Rattle.chain_core.specs.End.{services_within}
 use Rattle.chain_core.specs.Chain.{chain_end, board_after, chain_text, machine_run, AgreesWhereDone}
 use Rattle.chain_core.specs.declared.ended.Ended.{Ended}
-use Rattle.chain_core.specs.declared.dispatcher.Dispatcher.{Dispatcher}
-use Rattle.chain_core.specs.declared.dispatcher.Dispatcher.TheVariants.{Looping, Returning}
+use Rattle.chain_moves.specs.declared.dispatcher.Dispatcher.{Dispatcher}
+use Rattle.chain_moves.specs.declared.dispatcher.Dispatcher.TheVariants.{Looping, Returning}
 use Rattle.chain_core.specs.declared.chain_end.ChainEnd.{ChainEnd}
 use Rattle.chain_core.specs.declared.chain_end.ChainEnd.TheVariants.{Done as done, BudgetSpent as budget_spent, SinkFailed as sink_failed, Broken as broken}
 use Rattle.chain_direct.specs.DirectMoves.{direct_machine, direct_start}

@@ -4,12 +4,12 @@ use Rattle.clap.specs.Words.{App, Row, one_of, new_app, with_rule}
 use Rattle.hart_words.specs.Decimal.{decimal}
 use Rattle.hart_board.specs.State.{State}
 use Rattle.hart_board.specs.Event.{EventList}
-use Rattle.chain_core.specs.Words.{HasDispatcher}
-use Rattle.chain_core.specs.Watched.{nothing_watched}
+use Rattle.chain_moves.specs.Words.{HasDispatcher}
+use Rattle.chain_moves.specs.Watched.{nothing_watched}
 use Rattle.chain_core.specs.Chain.{chain_end, board_after}
 use Rattle.chain_core.specs.Text.{end_line}
-use Rattle.chain_core.specs.declared.dispatcher.Dispatcher.{Dispatcher}
-use Rattle.chain_core.specs.declared.dispatcher.Dispatcher.TheVariants.{Looping, Returning}
+use Rattle.chain_moves.specs.declared.dispatcher.Dispatcher.{Dispatcher}
+use Rattle.chain_moves.specs.declared.dispatcher.Dispatcher.TheVariants.{Looping, Returning}
 use Rattle.chain_core.specs.declared.chain_end.ChainEnd.{ChainEnd}
 use Rattle.chain_core.specs.declared.chain_end.ChainEnd.TheVariants.{Done as done, BudgetSpent as budget_spent, SinkFailed as sink_failed, Broken as broken}
 use Rattle.tool_frame.specs.Options.{number_rule, number_in}

@@ -1,7 +1,7 @@
 -- The image that `gen` makes of a number.
 use Rattle.std.specs.Prelude.{ℕ, ◌+◌, ◌*◌, List, [], ◌∷◌, ◌++◌}
 use Rattle.hart_memory.specs.Image.{SegmentView, ImageView}
-use Rattle.chain_core.specs.Start.{words_bytes}
+use Rattle.chain_moves.specs.Start.{words_bytes}
 
 -- words from an address on
 abbrev pub segment_of : ℕ → List ℕ → SegmentView

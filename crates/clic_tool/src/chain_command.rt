@@ -6,7 +6,7 @@ ghost use Rattle.clic_tool.specs.Chain.{chain_app, chain_in, dispatcher_of, view
 
 use crate::chain_order::ChainOrder;
 use board_outside::Word;
-use chain_core::Dispatcher;
+use chain_moves::Dispatcher;
 use clap::{ArgMatches, Command};
 use hart_words::WantOfMemory;
 use std::alloc::{AllocError, Global};

@@ -1,5 +1,5 @@
 // A chain that words ask for.
-use chain_core::Dispatcher;
+use chain_moves::Dispatcher;
 
 /// A chain that words ask for.
 #[derive(Drop)]

@@ -1,8 +1,8 @@
 // A chain on the shipped board, with direct services or without.
 ghost use Rattle.std.specs.Prelude.{◌≡◌, true, false, IsTrue, IfOk, IfErr};
 ghost use Rattle.board_outside.specs.Sink.{Writes};
-ghost use Rattle.chain_core.specs.Words.{HasDispatcher};
-ghost use Rattle.chain_core.specs.Watched.{nothing_watched};
+ghost use Rattle.chain_moves.specs.Words.{HasDispatcher};
+ghost use Rattle.chain_moves.specs.Watched.{nothing_watched};
 ghost use Rattle.chain_core.specs.Chain.{chain_end, board_after, chain_text, is_whole};
 ghost use Rattle.chain_direct.specs.DirectWatched.{nothing_direct};
 ghost use Rattle.chain_direct.specs.DirectText.{direct_end, direct_board, direct_text};
@@ -12,8 +12,9 @@ ghost use Rattle.clic_tool.specs.Chain.{ends_by, text_by, board_by, HasItsServic
 use crate::chain_order::ChainOrder;
 use board_devices::AllDevices;
 use board_outside::Sink;
-use chain_core::{ChainEnd, Dispatcher, Watch, chain};
+use chain_core::{ChainEnd, chain};
 use chain_direct::{DirectWatch, chain_direct};
+use chain_moves::{Dispatcher, Watch};
 use hart_board::{Board, Events};
 use hart_words::WantOfMemory;
 use std::alloc::Global;

@@ -1,6 +1,6 @@
 // A chain on the shipped board.
 ghost use Rattle.std.specs.Prelude.{◌≡◌, IfOk, Some, None, if◌then◌else◌};
-ghost use Rattle.chain_core.specs.Words.{HasDispatcher};
+ghost use Rattle.chain_moves.specs.Words.{HasDispatcher};
 ghost use Rattle.chain_core.specs.Chain.{is_whole};
 ghost use Rattle.clic_tool.specs.Bench.{Bench, empty_bench};
 ghost use Rattle.clic_tool.specs.ChainCauses.{IsServedTo};
@@ -18,7 +18,8 @@ use crate::scenario_file::ScenarioFile;
 use board_devices::AllDevices;
 use board_inputs::load_image;
 use board_outside::{Shelf, Sink};
-use chain_core::{ChainEnd, Dispatcher, install, slot_taken};
+use chain_core::ChainEnd;
+use chain_moves::{Dispatcher, install, slot_taken};
 use hart_board::{Board, Events};
 use hart_memory::Image;
 use hart_words::{Line, WantOfMemory};

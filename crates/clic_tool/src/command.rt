@@ -7,7 +7,7 @@ ghost use Rattle.tool_frame.specs.Plan.{due_of, outcome_of, HoldsAll};
 ghost use Rattle.tool_frame.specs.Answers.{FollowsWith, Leaves, Misuses, IsCalm, HasDone, IsReady, Succeeds};
 ghost use Rattle.tool_frame.specs.Causes.{NoneRose, AtFile, IsAbsentFile, IsFailedFile, IsRefusedFile, StopsShort};
 ghost use Rattle.chain_core.specs.declared.chain_end.ChainEnd.TheVariants as ends;
-ghost use Rattle.chain_core.specs.declared.broken.Broken.{Broken as BrokenBy};
+ghost use Rattle.chain_moves.specs.declared.broken.Broken.{Broken as BrokenBy};
 ghost use Rattle.clic_tool.specs.Bench.{empty_bench};
 ghost use Rattle.clic_tool.specs.Run.{RunWords};
 ghost use Rattle.clic_tool.specs.Chain.{ChainWords};

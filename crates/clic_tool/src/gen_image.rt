@@ -3,7 +3,7 @@ ghost use Rattle.std.specs.Prelude.{◌≡◌, ◌<◌, ◌++◌, ◌∷◌, [],
 ghost use Rattle.hart_memory.specs.Place.{holds};
 ghost use Rattle.hart_memory.specs.Image.{meets_any};
 ghost use Rattle.hart_memory.specs.declared.image.TheConstants.{MAX_SEGMENTS};
-ghost use Rattle.chain_core.specs.Start.{words_bytes};
+ghost use Rattle.chain_moves.specs.Start.{words_bytes};
 ghost use Rattle.clic_tool.specs.GenImage.{segment_of, gen_code, gen_table, gen_image};
 
 use hart_memory::Image;
@@ -55,7 +55,7 @@ fn code() -> [u32; 29]
 }
 
 // Adds a segment of one word.
-#[tactic(auto, unfolding(chain_core::specs::Start::words_bytes))]
+#[tactic(auto, unfolding(chain_moves::specs::Start::words_bytes))]
 fn add_word(image: &mut Image, at: u32, word: u32) -> Result<(), WantOfMemory>
     requires placed { holds at 4 ≡ true }
     requires apart { meets_any at 4 image.old.segments ≡ false }
@@ -77,7 +77,7 @@ fn text_of(alloc: Global, words: &[u32]) -> Result<Text, WantOfMemory>
 }
 
 // The segments of the table.
-#[tactic(auto, unfolding(hart_memory::specs::Place::place, chain_core::specs::Start::words_bytes))]
+#[tactic(auto, unfolding(hart_memory::specs::Place::place, chain_moves::specs::Start::words_bytes))]
 fn with_table(alloc: Global) -> Result<Image, WantOfMemory>
     ensures { IfOk result (λ image. image ≡ record { start = START; segments = gen_table }) }
 {
@@ -91,7 +91,7 @@ fn with_table(alloc: Global) -> Result<Image, WantOfMemory>
 }
 
 /// The image that is made of a number.
-#[tactic(auto, unfolding(hart_memory::specs::Place::place, chain_core::specs::Start::words_bytes, crate::specs::GenImage::gen_code, crate::specs::GenImage::gen_image))]
+#[tactic(auto, unfolding(hart_memory::specs::Place::place, chain_moves::specs::Start::words_bytes, crate::specs::GenImage::gen_code, crate::specs::GenImage::gen_image))]
 pub fn generated_image(alloc: Global, number: u16) -> Result<Image, WantOfMemory>
     ensures { IfOk result (λ image. image ≡ gen_image number) }
 {

@@ -3,7 +3,7 @@ ghost use Rattle.std.specs.Prelude.{◌≡◌, IfOk, IfErr, Some, is_ok, if◌th
 ghost use Rattle.board_outside.specs.Shelf.{ShelfView};
 ghost use Rattle.board_outside.specs.Sink.{Writes};
 ghost use Rattle.chain_core.specs.Chain.{chain_end, board_after};
-ghost use Rattle.chain_core.specs.declared.dispatcher.Dispatcher.TheVariants.{Looping, Returning};
+ghost use Rattle.chain_moves.specs.declared.dispatcher.Dispatcher.TheVariants.{Looping, Returning};
 ghost use Rattle.clic_tool.specs.Bench.{empty_bench};
 ghost use Rattle.clic_tool.specs.Shipped.{shipped_meanings};
 ghost use Rattle.clic_tool.specs.Chain.{chain_board};
@@ -21,7 +21,8 @@ use crate::gen_order::GenOrder;
 use crate::prepared::Prepared;
 use board_devices::AllDevices;
 use board_outside::{Quiet, Sink, SinkFault};
-use chain_core::{ChainEnd, Dispatcher, Watch, put_end};
+use chain_core::{ChainEnd, put_end};
+use chain_moves::{Dispatcher, Watch};
 use hart_board::{Board, Events};
 use hart_memory::Image;
 use hart_words::{Line, WantOfMemory};

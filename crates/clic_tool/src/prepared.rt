@@ -1,6 +1,6 @@
 // A board before its chain.
 use board_devices::AllDevices;
-use chain_core::Watch;
+use chain_moves::Watch;
 use hart_board::Board;
 
 /// A board before its chain, and what the chain keeps beside it.

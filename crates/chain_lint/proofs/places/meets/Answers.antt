@@ -1,6 +1,6 @@
 use Rattle.std.proofs.Common.{◌+◌, ◌-◌, ◌||◌, sym, ap, ap₂, ◌∙◌}
-use Rattle.chain_core.specs.Bytes.{some_byte}
-use Rattle.chain_core.proofs.Loops.{some_more, some_none}
+use Rattle.chain_moves.specs.Bytes.{some_byte}
+use Rattle.chain_moves.proofs.Loops.{some_more, some_none}
 use Rattle.chain_lint.specs.Rules.{in_region}
 use Rattle.chain_lint.proofs.places.meets.Goals as goal
 

@@ -1,5 +1,5 @@
 use Rattle.std.proofs.Common.{◌≡◌, ◌+◌, ◌-◌}
-use Rattle.chain_core.specs.Bytes.{some_byte}
+use Rattle.chain_moves.specs.Bytes.{some_byte}
 use Rattle.chain_lint.specs.Rules.{in_region}
 use Rattle.chain_lint.proofs.places.meets.Given as goal
 

@@ -1,7 +1,7 @@
 use Rattle.std.proofs.Common.{List, ℕ, sym, ap, ◌∙◌, subst}
 use Rattle.hart_board.specs.State.{State}
-use Rattle.chain_core.specs.Words.{HasDispatcher}
-use Rattle.chain_core.proofs.SlotBytes.{slot_has}
+use Rattle.chain_moves.specs.Words.{HasDispatcher}
+use Rattle.chain_moves.proofs.SlotBytes.{slot_has}
 use Rattle.clic_tool.proofs.InShape.{shipped_shape}
 use Rattle.clic_tool.proofs.chaining.board_with.Goals as goal
 

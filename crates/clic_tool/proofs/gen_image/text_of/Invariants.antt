@@ -1,5 +1,5 @@
 use Rattle.std.proofs.Common.{◌≡◌, ◌++◌, drop}
-use Rattle.chain_core.specs.Start.{words_bytes}
+use Rattle.chain_moves.specs.Start.{words_bytes}
 use Rattle.clic_tool.proofs.gen_image.text_of.Given as goal
 
 -- the bytes so far and those of the words that are left are the bytes of all
