@@ -12,11 +12,11 @@ use Rattle.hart_report.specs.declared.stepped.Stepped.{Stepped}
 use Rattle.hart_report.specs.declared.stepped.Stepped.TheVariants.{Retired, Interrupted, Raised, Halted, VectorFault}
 use Rattle.hart_board.specs.State.{State}
 use Rattle.hart_board.specs.Step.{Turn, step, kept_if_raised, tried}
-use Rattle.hart_board.specs.Event.{with_events}
+use Rattle.hart_board.specs.Event.{EventList, with_events}
 use Rattle.hart_board.specs.declared.event.Event.{Event}
 use Rattle.hart_board.proofs.Still.{tried_other}
 use Rattle.hart_board.proofs.Shapes.{step_has}
-use Rattle.chain_core.specs.Progress.{Progress, progress_of, counted_by, gone_by, gone, goes}
+use Rattle.chain_core.specs.Progress.{Progress, progress_of, counted_by, gone_by, gone, goes, IsOnCourse}
 use Rattle.chain_core.specs.Text.{turn_text, next_text, steps_text, Tells}
 use Rattle.chain_moves.specs.Servicing.{is_foreground}
 use Rattle.chain_moves.specs.Bytes.{marked, revived_at}
@@ -158,8 +158,16 @@ shape_by : (m : Meanings) (s : State) (o : Option ℕ) → raised_code (tried m 
 shape_by m s None e = ap (λ (t : Turn). t.state.outside.clic.shape) (tried_made m s e) ∙ step_has m s
 shape_by m s (Some code) e = ap (λ (t : State). t.outside.clic.shape) (tried_kept m s code e)
 
-pub tried_has : (m : Meanings) (s : State) → (tried m s).state.outside.clic.shape ≡ s.outside.clic.shape
+tried_has : (m : Meanings) (s : State) → (tried m s).state.outside.clic.shape ≡ s.outside.clic.shape
 tried_has m s = shape_by m s (raised_code (tried m s).told) refl
+
+-- so that it is on its course
+pub tried_course : (m : Meanings) (events : EventList) (s : State) (c : Course) (turn : Turn) → turn ≡ tried m s → IsOnCourse m events s c → IsOnCourse m events turn.state c
+tried_course m events s c turn e on = record {
+  shape = on.shape ∙ sym (ap (λ (t : Turn). t.state.outside.clic.shape) e ∙ tried_has m s);
+  ahead = on.ahead;
+  passed = on.passed;
+}
 
 -- ---- events change nothing of the hart
 pub record SameHart (s t : State) : Type 0 where

@@ -212,6 +212,33 @@ pub fn walk<D: Device, W: Sink>(
     Ok(())
 }
 
+// What follows a step that was only tried: where it raises nothing, it was made.
+#[inline(always)]
+fn settle_tried<D: Device, W: Sink>(
+    board: &mut Board<D>,
+    events: &Events,
+    course: &mut Course,
+    told: &Stepped,
+    trace: bool,
+    out: &mut W,
+) -> Result<Option<u16>, SinkFault>
+    requires room { HasRoom course.old 1 }
+    requires course { IsOnCourse D.means events.now board.old course.old }
+    ensures course { IsOnCourse D.means events.now board.new course.new }
+    ensures answer { IfOk result (λ raised. raised ≡ raised_code told.now) }
+    ensures progress { (start : State) → progress_of board.new course.new ≡ tried_by D.means events.now.list (progress_of start course.old) (record { told = told.now; state = board.old }) (raised_code told.now) }
+    ensures hart { (board.new.pc ≡ board.old.pc) × (board.new.registers ≡ board.old.registers) }
+    ensures tells { (start : State) → record { told = told.now; state = board.old } ≡ tried D.means start → Tells D.means events.now.list trace (tried_steps (raised_code (tried D.means start).told)) (is_ok result) (progress_of start course.old) (progress_of board.new course.new) (W.told out.old) (W.told out.new) }
+{
+    match raised_code(told) {
+        Some(code) => Ok(Some(code)),
+        None => {
+            settle(board, events, course, told, trace, out)?;
+            Ok(None)
+        }
+    }
+}
+
 /// A body whose instruction was prepared, as a step that is only tried: where it would be the entry of
 /// an exception, nothing changes, and the answer is that exception's code.
 #[inline(always)]
@@ -235,13 +262,7 @@ pub fn try_body<D: Device, W: Sink>(
     ensures tells { Tells D.means events.now.list trace (tried_steps (raised_code (tried D.means board.old).told)) (is_ok result) (progress_of board.old course.old) (progress_of board.new course.new) (W.told out.old) (W.told out.new) }
 {
     let told = board.try_prepared(prepared);
-    match raised_code(&told) {
-        Some(code) => Ok(Some(code)),
-        None => {
-            settle(board, events, course, &told, trace, out)?;
-            Ok(None)
-        }
-    }
+    settle_tried(board, events, course, &told, trace, out)
 }
 
 /// A step that is only tried: where it would be the entry of an exception, nothing changes, and the
@@ -262,11 +283,5 @@ pub fn try_one<D: Device, W: Sink>(
     ensures tells { Tells D.means events.now.list trace (tried_steps (raised_code (tried D.means board.old).told)) (is_ok result) (progress_of board.old course.old) (progress_of board.new course.new) (W.told out.old) (W.told out.new) }
 {
     let told = board.try_step();
-    match raised_code(&told) {
-        Some(code) => Ok(Some(code)),
-        None => {
-            settle(board, events, course, &told, trace, out)?;
-            Ok(None)
-        }
-    }
+    settle_tried(board, events, course, &told, trace, out)
 }

@@ -1,46 +1,8 @@
-use Rattle.std.proofs.Common.{sym, ap, ◌∙◌, false, true}
-use Rattle.hart_report.proofs.Texts.{same_text}
-use Rattle.hart_board.specs.Step.{Turn}
-use Rattle.chain_core.specs.Progress.{progress_of, gone_by}
-use Rattle.chain_core.specs.Text.{turn_text}
-use Rattle.chain_core.specs.Rounds.{raised_code}
-use Rattle.chain_core.proofs.Told.{stopped_told, raised_told, made_told, tried_has}
+use Rattle.chain_core.proofs.Told.{tried_course}
 use Rattle.chain_core.proofs.stepping.try_one.Goals as goal
 
-pub settle-requires-clause-course : goal.settle-requires-clause-course
-settle-requires-clause-course g c = record {
-  shape = c.requires.course.shape ∙ sym (ap (λ (t : Turn). t.state.outside.clic.shape) c.try_step-told.ensures ∙ tried_has g.D.Device.means c.args.board.now);
-  ahead = c.requires.course.ahead;
-  passed = c.requires.course.passed;
-}
+pub settle_tried-requires-clause-course : goal.settle_tried-requires-clause-course
+settle_tried-requires-clause-course g c = tried_course g.D.Device.means c.args.events.now c.args.board.now c.args.course.now _ c.try_step-told.ensures c.requires.course
 
-pub returns-in_err-settle-in-None-clause-tells : goal.returns-in_err-settle-in-None-clause-tells
-returns-in_err-settle-in-None-clause-tells g c =
-    let m = g.D.Device.means in
-    let es = c.args.events.now.list in
-    let turn = c.try_step-told.ensures in
-    let p = progress_of c.args.board.now c.args.course.now in
-    stopped_told m es c.from_residual.result c.args.trace _ _ _ _ _ c.from_residual.ensures.0
-    (made_told m es c.args.trace false _ _ _ _ (sym (ap (λ (t : Turn). raised_code t.told) turn) ∙ sym c.in-None.ensures) (c.settle.ensures.progress c.args.board.now ∙ ap (gone_by m es p) turn) (same_text (ap (turn_text c.args.trace c.args.course.now.depth) turn) c.in_err-settle-in-None.ensures.text))
-
-pub returns-in-Some-clause-course : goal.returns-in-Some-clause-course
-returns-in-Some-clause-course g c = record {
-  shape = c.requires.course.shape ∙ sym (ap (λ (t : Turn). t.state.outside.clic.shape) c.try_step-told.ensures ∙ tried_has g.D.Device.means c.args.board.now);
-  ahead = c.requires.course.ahead;
-  passed = c.requires.course.passed;
-}
-
-pub returns-in-Some-clause-tells : goal.returns-in-Some-clause-tells
-returns-in-Some-clause-tells g c =
-    let m = g.D.Device.means in
-    let es = c.args.events.now.list in
-    let turn = c.try_step-told.ensures in
-    raised_told m es c.args.trace _ _ _ _ (sym (ap (λ (t : Turn). raised_code t.told) turn) ∙ sym c.in-Some.ensures) (ap (λ (t : Turn). progress_of t.state c.args.course.now) turn)
-
-pub returns-in_ok-settle-in-None-clause-tells : goal.returns-in_ok-settle-in-None-clause-tells
-returns-in_ok-settle-in-None-clause-tells g c =
-    let m = g.D.Device.means in
-    let es = c.args.events.now.list in
-    let turn = c.try_step-told.ensures in
-    let p = progress_of c.args.board.now c.args.course.now in
-    made_told m es c.args.trace true _ _ _ _ (sym (ap (λ (t : Turn). raised_code t.told) turn) ∙ sym c.in-None.ensures) (c.settle.ensures.progress c.args.board.now ∙ ap (gone_by m es p) turn) (same_text (ap (turn_text c.args.trace c.args.course.now.depth) turn) c.in_ok-settle-in-None.ensures.text)
+pub returns-clause-tells : goal.returns-clause-tells
+returns-clause-tells g c = c.settle_tried.ensures.tells c.args.board.now c.try_step-told.ensures
