@@ -73,7 +73,7 @@ module _ (m : Meanings) (es : List Event) (sound : IsSoundDevice m) where
   done_run : (d : Dispatcher) (bound : ℕ) (b : State) (steps bodies services at : ℕ) → Starts m es d b → chain_end m es d bound b ≡ record { end = Done steps bodies services; steps = at } → DoneRun m es d bound b steps bodies services
   unfolding end_at
   done_run d bound b steps bodies services at s e =
-      let ends = ends_from m es sound d bound b s.valid s.events s.has s.level in
+      let ends = ends_from sound bound s in
       let done : IsTrue (is_done ends.end) = ap (λ (k : Ended). is_done k.end) (sym ends.final.ends ∙ e) in
       let h = ends.halt done in
       let run : IsRun (servicing_machine m es) (begun m es b) (Over h.made h.state) = subst (IsRun (servicing_machine m es) (begun m es b)) h.over (is_run (servicing_machine m es) (begun m es b) (suc bound)) in

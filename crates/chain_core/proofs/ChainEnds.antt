@@ -1,11 +1,12 @@
 -- What a chain's end says: its services, the state, and where the sink failed.
-use Rattle.std.proofs.Common.{◌≡◌, ℕ, zero, suc, ◌+◌, ◌-◌, ◌<◌, ◌≤◌, Bool, true, false, List, [], refl, sym, ap, ◌∙◌, subst, arith}
-use Rattle.std.specs.Prelude.{IsTrue, ◌++◌, slice_index, slice_index_or}
+use Rattle.std.proofs.Common.{◌≡◌, ℕ, zero, suc, ◌+◌, ◌-◌, ◌<◌, ◌≤◌, Bool, true, false, List, [], inl, inr, refl, sym, ap, ◌∙◌, subst, arith}
+use Rattle.std.specs.Prelude.{◌⊎◌, IsTrue, ◌++◌, slice_index, slice_index_or}
 use Rattle.chain_moves.specs.Slot.{in_slot}
 use Rattle.std.proofs.lemmas.Bool.{false≢true}
 use Rattle.board_outside.specs.Sink.{SinkView, Writes}
 use Rattle.board_outside.proofs.Writing.{then_writes, stops_writing}
 use Rattle.device_model.specs.Meanings.{Meanings, IsSound as IsSoundDevice}
+use Rattle.hart_report.specs.Text.{StopsAfter}
 use Rattle.hart_report.proofs.Texts.{same_text}
 use Rattle.hart_board.specs.State.{State}
 use Rattle.hart_board.specs.Step.{step}
@@ -27,7 +28,7 @@ use Rattle.chain_moves.specs.Beside.{Rest, board_of}
 use Rattle.chain_core.specs.Progress.{Progress}
 use Rattle.chain_core.specs.Text.{steps_text, report, Cut}
 use Rattle.chain_core.specs.Rounds.{round}
-use Rattle.chain_core.specs.Chain.{chain_end, machine_run, board_after, dead_at, is_whole, report_part, is_done, AgreesWith, AgreesAtEnd, AgreesWhereDone}
+use Rattle.chain_core.specs.Chain.{chain_end, machine_run, board_after, dead_at, is_whole, steps_part, report_part, is_done, StopsInSteps, Stops, AgreesWith, AgreesAtEnd, AgreesWhereDone}
 use Rattle.chain_moves.specs.declared.dispatcher.Dispatcher.{Dispatcher}
 use Rattle.chain_core.specs.declared.ended.Ended.{Ended}
 use Rattle.chain_core.specs.declared.chain_end.ChainEnd.{ChainEnd}
@@ -37,6 +38,7 @@ use Rattle.chain_core.specs.declared.round.Round.TheVariants.{Made, Failed, Ende
 use Rattle.chain_core.proofs.Told.{text_add}
 use Rattle.chain_core.proofs.Standing.{Stood, Final, AtHalt, RoundMeans}
 use Rattle.chain_core.proofs.RoundMeans.{round_means}
+use Rattle.chain_core.specs.Both.{Starts}
 
 -- a board that stands beside a state in which no service is live agrees with it
 pub agrees : (s : Servicing) (x : Rest) (board : State) → board ≡ board_of s x → s.live ≡ [] → ((j : ℕ) → in_slot j ≡ false → slice_index x.rom j ≡ slice_index s.memory.rom j) → ((j : ℕ) → slice_index_or s.dead j false ≡ false → slice_index x.ram j ≡ slice_index s.memory.ram j) → AgreesWith board s
@@ -133,14 +135,6 @@ kept_after m es b new k stays e = ap (λ (b : State). b.kept) e ∙ kept_at m es
 
 -- ---- the text
 
--- the report tells the dead bytes where the chain is done, and none elsewhere
-pub same_report : (m : Meanings) (dead other : List Bool) (b : State) (end : ChainEnd) (steps : ℕ) → (IsTrue (is_done end) → dead ≡ other) → report m dead b end steps ≡ report m other b end steps
-unfolding report
-same_report m dead other b (Done steps' bodies services) steps h = ap (λ l. report m l b (Done steps' bodies services) steps) (h refl)
-same_report m dead other b BudgetSpent steps h = refl
-same_report m dead other b (BrokenOff kind bodies) steps h = refl
-same_report m dead other b SinkFailed steps h = refl
-
 -- what was cut off in the steps is a front of the whole text
 pub cut_text : (m : Meanings) (es : List Event) (trace : Bool) (n : ℕ) (p q : Progress) (o v : SinkView) (rest : List ℕ) → Cut m es trace n p q o v → Writes false o v (steps_text m es trace n p ++ rest)
 unfolding steps_text
@@ -151,14 +145,23 @@ cut_text m es trace n p q o v rest h =
     (same_text (sym (text_add m es trace h.k (suc more) p) ∙ ap (λ i. steps_text m es trace i p) split)
     (then_writes h.whole (stops_writing _ h.broken)))
 
-pub report_is : (m : Meanings) (es : List Event) (d : Dispatcher) (bound : ℕ) (b board : State) (dead : List Bool) (ended : Ended) → ended ≡ chain_end m es d bound b → board ≡ board_after m es d bound b → (IsTrue (is_done ended.end) → dead ≡ dead_at m es bound b) → report m dead board ended.end ended.steps ≡ report_part m es d bound b
-report_is m es d bound b board dead ended e is h =
-    same_report m dead (dead_at m es bound b) board ended.end ended.steps h
-    ∙ (ap (λ (q : State). report m (dead_at m es bound b) q ended.end ended.steps) is
-    ∙ ap (λ (k : Ended). report m (dead_at m es bound b) (board_after m es d bound b) k.end k.steps) e)
-
 -- ---- from the start
-pub ends_from : (m : Meanings) (es : List Event) (sound : IsSoundDevice m) (d : Dispatcher) (bound : ℕ) (b : State) → IsBoard m b → AreEventsFrom b.outside.clic.shape.inputs 0 es → HasDispatcher d b.memory.rom → b.csrs.mil ≡ 0 → Ends m es sound 0 d bound b
-ends_from m es sound d bound b valid events has level =
+pub ends_from : {m : Meanings} {es : List Event} (sound : IsSoundDevice m) {d : Dispatcher} (bound : ℕ) {b : State} → Starts m es d b → Ends m es sound 0 d bound b
+ends_from {m = m} {es = es} sound {d = d} bound {b = b} starts =
     let p : Progress = record { board = with_events m 0 es b; bodies = 0; depth = 0; services = 0 } in
-    ends m es sound 0 d bound b p nothing_watched (stood_first m es sound d bound b p nothing_watched valid events has level refl refl)
+    ends m es sound 0 d bound b p nothing_watched (stood_first sound p nothing_watched starts refl refl)
+
+module _ {m : Meanings} {es : List Event} (sound : IsSoundDevice m) {d : Dispatcher} (bound : ℕ) {b : State} (starts : Starts m es d b) where
+  pub never_failed : is_whole (chain_end m es d bound b).end ≡ true
+  never_failed = never_fails m es sound 0 d bound b (ends_from sound bound starts)
+
+  pub services_from : (read_to m es b (chain_end m es d bound b).steps).services ≡ services_within (servicing_machine m es) d bound (begun m es b)
+  services_from = services_are m es sound 0 d bound b (ends_from sound bound starts)
+
+  pub state_from : AgreesWhereDone (chain_end m es d bound b).end (board_after m es d bound b) (machine_run m es bound b)
+  state_from = state_is m es sound 0 d bound b (ends_from sound bound starts)
+
+-- where the sink failed, that was in the report, or in the steps
+pub stops_by : (m : Meanings) (es : List Event) (d : Dispatcher) (trace : Bool) (bound : ℕ) (b board : State) (o v : SinkView) → ((board ≡ board_after m es d bound b) × StopsAfter o v (steps_part m es d trace bound b) (report_part m es d bound b)) ⊎ StopsInSteps m es d trace bound b board o v → Stops m es d trace bound b board o v
+stops_by m es d trace bound b board o v (inl h) = inl (record { board = h.0; text = h.1 })
+stops_by m es d trace bound b board o v (inr h) = inr h

@@ -19,5 +19,6 @@ pub mod RoundsReturn
 pub mod RoundsBody
 pub mod RoundMeans
 pub mod ChainLoop
+pub mod Closed
 pub mod ChainEnds
 pub mod BothRuns

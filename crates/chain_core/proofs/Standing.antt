@@ -171,7 +171,7 @@ module _ (m : Meanings) (es : List Event) (from : ℕ) (d : Dispatcher) (bound :
     RoundMeansFrom n Ended p w = OverFrom n p w
     RoundMeansFrom n Spent p w = SpentFrom p
 
-    abbrev pub MeansFrom : ℕ → Rounded → Type 0
+    abbrev pub MeansFrom : ℕ → Rounded Watched → Type 0
     MeansFrom n o = RoundMeansFrom n o.told o.progress o.watch
 
   -- ---- the same from the start of a chain
@@ -203,7 +203,7 @@ module _ (m : Meanings) (es : List Event) (from : ℕ) (d : Dispatcher) (bound :
   RoundMeans n Ended p w = Final (Done n p.bodies p.services) n p × AtHalt p w
   RoundMeans n Spent p w = Final BudgetSpent bound p
 
-  abbrev pub Means : ℕ → Rounded → Type 0
+  abbrev pub Means : ℕ → Rounded Watched → Type 0
   Means n o = RoundMeans n o.told o.progress o.watch
 
   broke_final : (n : ℕ) (kind : Broken) (steps : ℕ) (p : Progress) → BrokeFrom (begun m es b) 0 n kind steps p → Final (BrokenOff kind p.bodies) steps p

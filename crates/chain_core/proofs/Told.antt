@@ -21,11 +21,12 @@ use Rattle.chain_core.specs.Text.{turn_text, next_text, steps_text, Tells}
 use Rattle.chain_moves.specs.Servicing.{is_foreground}
 use Rattle.chain_moves.specs.Bytes.{marked, revived_at}
 use Rattle.chain_moves.specs.Watched.{Watched}
-use Rattle.chain_core.specs.Rounds.{raised_code, tried_steps, halted_round, round_body, round_verdict, round_due, round_unless_halted, round, steps_made}
+use Rattle.chain_core.specs.Rounds.{raised_code, tried_steps, halted_round, round_body, round_verdict, round_due, round_unless_halted, round, steps_made, IsMade}
 use Rattle.chain_moves.specs.Cost.{body_cost}
 use Rattle.chain_moves.specs.Judge.{judge_turn}
 use Rattle.chain_moves.specs.Ready.{verdict_by, revived_by}
 use Rattle.chain_core.specs.declared.course.Course.{Course}
+use Rattle.chain_core.specs.declared.round.Round.{Round}
 use Rattle.chain_moves.specs.declared.turn.Turn.TheVariants.{Body}
 use Rattle.chain_moves.specs.declared.verdict.Verdict.{Verdict}
 use Rattle.chain_core.specs.ChainRun.{is_body}
@@ -190,12 +191,15 @@ halted_none left true = refl
 halted_none left false = refl
 
 -- a round makes no step where the board has halted
-pub halted_told : (m : Meanings) (es : List Event) (trace : Bool) (d : Dispatcher) (left : ℕ) (p : Progress) (w : Watched) (o : SinkView) (code : ℕ) → m.halted p.board.outside.device ≡ Some code → Tells m es trace (steps_made left (round m es d left p w).told) true p p o o
+pub halted_made : {E : Type 0} (m : Meanings) (es : List Event) (trace : Bool) (d : Dispatcher) (left : ℕ) (p : Progress) (w : Watched) (o : SinkView) (code : ℕ) (told : Round) → m.halted p.board.outside.device ≡ Some code → told ≡ halted_round (is_foreground w.live) → IsMade {E = E} m es trace left (round m es d left p w) (Ok told) p p w o o
 unfolding round
-halted_told m es trace d left p w o code e =
+halted_made m es trace d left p w o code told e here =
     let none : steps_made left (round_unless_halted m es d left p w (m.halted p.board.outside.device)).told ≡ 0 =
     ap (λ c. steps_made left (round_unless_halted m es d left p w c).told) e ∙ halted_none left (is_foreground w.live) in
-    subst (λ n. Tells m es trace n true p p o o) (sym none) (nothing_told m es trace p o)
+    record {
+      round = ap (λ (t : Round). record { told = t; progress = p; watch = w }) here ∙ sym (ap (round_unless_halted m es d left p w) e);
+      tells = subst (λ n. Tells m es trace n true p p o o) (sym none) (nothing_told m es trace p o);
+    }
 
 -- ---- bodies
 outside_call : (pc : ℕ) → not (in_slot pc) ≡ true → ((pc == call) ≡ false) × ((pc == back) ≡ false)

@@ -8,3 +8,4 @@ pub mod Rounds
 pub mod Chain
 pub mod Both
 pub mod Example
+pub mod Closing

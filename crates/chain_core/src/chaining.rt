@@ -7,13 +7,15 @@ ghost use Rattle.chain_moves.specs.Watched.{nothing_watched};
 ghost use Rattle.chain_moves.specs.Moves.{servicing_machine};
 ghost use Rattle.chain_moves.specs.Start.{begun};
 ghost use Rattle.chain_core.specs.End.{services_within};
-ghost use Rattle.chain_core.specs.Chain.{chain_end, machine_run, board_after, dead_at, steps_part, report_part, chain_text, is_whole, is_done, StopsInSteps, Stops, AgreesWhereDone};
+ghost use Rattle.chain_core.specs.Chain.{chain_end, machine_run, board_after, dead_at, steps_part, chain_text, is_whole, StopsInSteps, Stops, AgreesWhereDone};
+ghost use Rattle.chain_core.specs.Both.{Starts};
+ghost use Rattle.chain_core.specs.Closing.{ComesTo};
 ghost use Rattle.chain_core.specs.declared.chain_end.ChainEnd.TheVariants.{Done, SinkFailed};
 
 use crate::chain_end::ChainEnd;
 use crate::course::Course;
 use crate::ended::Ended;
-use crate::ending::put_report;
+use crate::ending::close;
 use crate::round::Round;
 use crate::rounds::round;
 use board_outside::{Sink, SinkFault};
@@ -22,6 +24,17 @@ use device_model::Device;
 use hart_board::laws::kept_states_stay;
 use hart_board::{Board, Events, take_due};
 
+/// A chain can start from this board under its dispatcher, with these events. It takes no time.
+pub fn can_start<D: Device>(board: &Board<D>, dispatcher: Dispatcher, events: &Events)
+    requires has { HasDispatcher dispatcher board.now.memory.rom }
+    requires level { board.now.csrs.mil ≡ 0 }
+    requires shape { events.now.shape ≡ board.now.outside.clic.shape }
+    ensures { Starts D.means events.now.list dispatcher board.now }
+{
+    board.in_range();
+    events.in_order();
+}
+
 fn ended(end: ChainEnd, steps: u64) -> Ended
     ensures { result ≡ record { end = end; steps = steps } }
 {
@@ -29,14 +42,15 @@ fn ended(end: ChainEnd, steps: u64) -> Ended
 }
 
 // The board has halted with no service live.
-fn done(course: &Course, steps: u64) -> ChainEnd
-    ensures { result ≡ Done steps course.now.bodies course.now.services }
+fn done(course: &Course, steps: u64) -> Ended
+    ensures { result ≡ record { end = Done steps course.now.bodies course.now.services; steps = steps } }
 {
-    ChainEnd::Done {
+    let end = ChainEnd::Done {
         steps,
         bodies: course.bodies,
         services: course.services,
-    }
+    };
+    ended(end, steps)
 }
 
 // Rounds until the chain ends, with the lines of its steps and services.
@@ -49,17 +63,13 @@ fn advance<D: Device, W: Sink>(
     trace: bool,
     out: &mut W,
 ) -> Result<Ended, SinkFault>
-    requires has { HasDispatcher d board.old.memory.rom }
-    requires level { board.old.csrs.mil ≡ 0 }
+    requires starts { Starts D.means events.now.list d board.old }
     requires new { watch.old ≡ nothing_watched }
     requires shape { events.now.shape ≡ board.old.outside.clic.shape }
-    ensures end { IfOk result (λ ended. (ended ≡ chain_end D.means events.now.list d bound board.old) × (board.new ≡ board_after D.means events.now.list d bound board.old)) }
-    ensures dead { IfOk result (λ ended. IsTrue (is_done ended.end) → watch.new.dead ≡ dead_at D.means events.now.list bound board.old) }
-    ensures text { IfOk result (λ ended. Writes true (W.told out.old) (W.told out.new) (steps_part D.means events.now.list d trace bound board.old)) }
+    ensures ended { let due = chain_end D.means events.now.list d bound board.old in
+        IfOk result (λ ended. ComesTo due (board_after D.means events.now.list d bound board.old) (dead_at D.means events.now.list bound board.old) (steps_part D.means events.now.list d trace bound board.old) ended board.new watch.new.dead (W.told out.old) (W.told out.new)) }
     ensures stopped { IfErr result (λ fault. StopsInSteps D.means events.now.list d trace bound board.old board.new (W.told out.old) (W.told out.new)) }
 {
-    board.in_range();
-    events.in_order();
     let ahead = take_due(board, events, 0, 0);
     let mut course = Course {
         bodies: 0,
@@ -84,7 +94,7 @@ fn advance<D: Device, W: Sink>(
                 let bodies = course.bodies;
                 return Ok(ended(ChainEnd::Broken { kind, bodies }, steps + count));
             }
-            Round::Ended => return Ok(ended(done(&course, steps), steps)),
+            Round::Ended => return Ok(done(&course, steps)),
             Round::Spent => return Ok(ended(ChainEnd::BudgetSpent, bound)),
         }
     }
@@ -118,14 +128,8 @@ pub fn chain<D: Device, W: Sink>(
     ensures state { AgreesWhereDone (chain_end D.means events.now.list dispatcher bound board.old).end (board_after D.means events.now.list dispatcher bound board.old) (machine_run D.means events.now.list bound board.old) }
     ensures kept { board.new.kept ≡ board.old.kept }
 {
-    board.in_range();
-    events.in_order();
+    can_start(board, dispatcher, events);
     kept_states_stay::<D>();
-    match advance(board, watch, dispatcher, events, bound, trace, out) {
-        Ok(ended) => match put_report(&ended, watch, board, out) {
-            Ok(()) => ended.end,
-            Err(_) => ChainEnd::SinkFailed,
-        },
-        Err(_) => ChainEnd::SinkFailed,
-    }
+    let rounds = advance(board, watch, dispatcher, events, bound, trace, out);
+    close(rounds, watch, board, out)
 }

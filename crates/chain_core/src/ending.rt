@@ -2,6 +2,7 @@
 ghost use Rattle.std.specs.Prelude.{◌≡◌, is_ok};
 ghost use Rattle.board_outside.specs.Sink.{Writes};
 ghost use Rattle.chain_core.specs.Text.{end_line, board_part, done_part, report};
+ghost use Rattle.chain_core.specs.Closing.{Closes};
 
 use crate::chain_end::ChainEnd;
 use crate::ended::Ended;
@@ -59,9 +60,9 @@ fn put_done<D: Device, W: Sink>(
     }
 }
 
-/// Writes the report of a chain that ended so on this board.
+// The report of a chain that ended so on this board.
 #[tactic(auto, unfolding(crate::specs::Text::report))]
-pub fn put_report<D: Device, W: Sink>(
+fn put_report<D: Device, W: Sink>(
     ended: &Ended,
     watch: &Watch,
     board: &Board<D>,
@@ -72,4 +73,23 @@ pub fn put_report<D: Device, W: Sink>(
     put_end(ended.end, board.halted(), out)?;
     put_steps(ended.steps, out)?;
     put_done(ended.end, watch, board, out)
+}
+
+/// Writes the report of a chain whose rounds came to this end, where the sink didn't fail in them. The
+/// answer is how the chain ends.
+pub fn close<D: Device, W: Sink>(
+    rounds: Result<Ended, SinkFault>,
+    watch: &Watch,
+    board: &Board<D>,
+    out: &mut W,
+) -> ChainEnd
+    ensures { Closes D.means rounds watch.now.dead board.now result (W.told out.old) (W.told out.new) }
+{
+    match rounds {
+        Ok(ended) => match put_report(&ended, watch, board, out) {
+            Ok(()) => ended.end,
+            Err(_) => ChainEnd::SinkFailed,
+        },
+        Err(_) => ChainEnd::SinkFailed,
+    }
 }

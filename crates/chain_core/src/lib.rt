@@ -14,7 +14,7 @@ pub mod stepping;
 mod telling;
 
 pub use chain_end::ChainEnd;
-pub use chaining::chain;
+pub use chaining::{can_start, chain};
 pub use course::Course;
 pub use ended::Ended;
 pub use ending::put_end;

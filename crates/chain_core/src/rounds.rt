@@ -1,5 +1,5 @@
 // Rounds of a chain: the move that is due, or a Leave with the Enter that it is fused with.
-ghost use Rattle.std.specs.Prelude.{◌≡◌, ℕ, ◌+◌, ◌<◌, ◌≤◌, false, length, nat_le, is_ok, IfOk, None};
+ghost use Rattle.std.specs.Prelude.{◌≡◌, ℕ, ◌+◌, ◌<◌, ◌≤◌, false, length, nat_le, IfOk, None};
 ghost use Rattle.hart_memory.specs.Place.{place};
 ghost use Rattle.hart_memory.specs.declared.address_map.TheConstants.{RAM_BASE, BANK_LEN};
 ghost use Rattle.chain_moves.specs.Slot.{frame_size};
@@ -14,8 +14,7 @@ ghost use Rattle.clic_trap.specs.Due.{due};
 ghost use Rattle.hart_board.specs.Prepared.{IsPrepared};
 ghost use Rattle.hart_board.specs.Step.{tried};
 ghost use Rattle.chain_core.specs.Progress.{progress_of, HasRoom, IsOnCourse};
-ghost use Rattle.chain_core.specs.Rounds.{mark_at, fused_cost, round_enter, round_leave, round_parted, round_fused, round_body, round_entry, round_fuse, round_verdict, round_due, retired_round, halted_round, round, steps_made};
-ghost use Rattle.chain_core.specs.Text.{Tells};
+ghost use Rattle.chain_core.specs.Rounds.{mark_at, fused_cost, round_enter, round_leave, round_parted, round_fused, round_body, round_entry, round_fuse, round_verdict, round_due, retired_round, halted_round, round, IsMade};
 ghost use Rattle.chain_moves.specs.declared.watch.TheConstants.{MAX_LIVE};
 ghost use Rattle.chain_moves.specs.declared.turn.Turn.TheVariants.{Enter, Fuse};
 ghost use Rattle.chain_moves.specs.declared.entry.Entry.TheVariants.{Admitted};
@@ -67,9 +66,8 @@ fn begin<D: Device, W: Sink>(
     requires room { HasRoom course.old left }
     requires course { IsOnCourse D.means events.now board.old course.old }
     ensures course { IsOnCourse D.means events.now board.new course.new }
-    ensures round { IfOk result (λ told. record { told = told; progress = progress_of board.new course.new; watch = watch.new } ≡ round_enter D.means events.now.list left (progress_of board.old course.old) watch.old (nat_le enter_cost left) frame) }
-    ensures tells { let due = round_enter D.means events.now.list left (progress_of board.old course.old) watch.old (nat_le enter_cost left) frame in
-        Tells D.means events.now.list trace (steps_made left due.told) (is_ok result) (progress_of board.old course.old) (progress_of board.new course.new) (W.told out.old) (W.told out.new) }
+    ensures made { let due = round_enter D.means events.now.list left (progress_of board.old course.old) watch.old (nat_le enter_cost left) frame in
+        IsMade D.means events.now.list trace left due result (progress_of board.old course.old) (progress_of board.new course.new) watch.new (W.told out.old) (W.told out.new) }
 {
     if left < ENTER_COST {
         walk(board, events, course, left, trace, out)?;
@@ -93,9 +91,8 @@ fn leave<D: Device, W: Sink>(
     requires room { HasRoom course.old left }
     requires course { IsOnCourse D.means events.now board.old course.old }
     ensures course { IsOnCourse D.means events.now board.new course.new }
-    ensures round { IfOk result (λ told. record { told = told; progress = progress_of board.new course.new; watch = watch.new } ≡ round_leave D.means events.now.list left (progress_of board.old course.old) watch.old (nat_le leave_cost left)) }
-    ensures tells { let due = round_leave D.means events.now.list left (progress_of board.old course.old) watch.old (nat_le leave_cost left) in
-        Tells D.means events.now.list trace (steps_made left due.told) (is_ok result) (progress_of board.old course.old) (progress_of board.new course.new) (W.told out.old) (W.told out.new) }
+    ensures made { let due = round_leave D.means events.now.list left (progress_of board.old course.old) watch.old (nat_le leave_cost left) in
+        IsMade D.means events.now.list trace left due result (progress_of board.old course.old) (progress_of board.new course.new) watch.new (W.told out.old) (W.told out.new) }
 {
     if left < LEAVE_COST {
         walk(board, events, course, left, trace, out)?;
@@ -120,9 +117,8 @@ fn part<D: Device, W: Sink>(
     requires room { HasRoom course.old left }
     requires course { IsOnCourse D.means events.now board.old course.old }
     ensures course { IsOnCourse D.means events.now board.new course.new }
-    ensures round { IfOk result (λ told. record { told = told; progress = progress_of board.new course.new; watch = watch.new } ≡ round_parted D.means events.now.list left (progress_of board.old course.old) watch.old (nat_le fused_leave_cost left) kind) }
-    ensures tells { let due = round_parted D.means events.now.list left (progress_of board.old course.old) watch.old (nat_le fused_leave_cost left) kind in
-        Tells D.means events.now.list trace (steps_made left due.told) (is_ok result) (progress_of board.old course.old) (progress_of board.new course.new) (W.told out.old) (W.told out.new) }
+    ensures made { let due = round_parted D.means events.now.list left (progress_of board.old course.old) watch.old (nat_le fused_leave_cost left) kind in
+        IsMade D.means events.now.list trace left due result (progress_of board.old course.old) (progress_of board.new course.new) watch.new (W.told out.old) (W.told out.new) }
 {
     if left < FUSED_LEAVE_COST {
         walk(board, events, course, left, trace, out)?;
@@ -149,9 +145,8 @@ fn go_over<D: Device, W: Sink>(
     requires room { HasRoom course.old left }
     requires course { IsOnCourse D.means events.now board.old course.old }
     ensures course { IsOnCourse D.means events.now board.new course.new }
-    ensures round { IfOk result (λ told. record { told = told; progress = progress_of board.new course.new; watch = watch.new } ≡ round_fused D.means events.now.list left (progress_of board.old course.old) watch.old (nat_le fused_cost left) frame) }
-    ensures tells { let due = round_fused D.means events.now.list left (progress_of board.old course.old) watch.old (nat_le fused_cost left) frame in
-        Tells D.means events.now.list trace (steps_made left due.told) (is_ok result) (progress_of board.old course.old) (progress_of board.new course.new) (W.told out.old) (W.told out.new) }
+    ensures made { let due = round_fused D.means events.now.list left (progress_of board.old course.old) watch.old (nat_le fused_cost left) frame in
+        IsMade D.means events.now.list trace left due result (progress_of board.old course.old) (progress_of board.new course.new) watch.new (W.told out.old) (W.told out.new) }
 {
     if left < FUSED_COST {
         walk(board, events, course, left, trace, out)?;
@@ -193,9 +188,8 @@ fn carry_out<D: Device, W: Sink>(
     requires room { HasRoom course.old left }
     requires course { IsOnCourse D.means events.now board.old course.old }
     ensures course { IsOnCourse D.means events.now board.new course.new }
-    ensures round { IfOk result (λ told. record { told = told; progress = progress_of board.new course.new; watch = watch.new } ≡ round_body D.means events.now.list left (progress_of board.old course.old) watch.old (nat_le body_cost left) (revived_by watch.old prepared.now.effect)) }
-    ensures tells { let due = round_body D.means events.now.list left (progress_of board.old course.old) watch.old (nat_le body_cost left) (revived_by watch.old prepared.now.effect) in
-        Tells D.means events.now.list trace (steps_made left due.told) (is_ok result) (progress_of board.old course.old) (progress_of board.new course.new) (W.told out.old) (W.told out.new) }
+    ensures made { let due = round_body D.means events.now.list left (progress_of board.old course.old) watch.old (nat_le body_cost left) (revived_by watch.old prepared.now.effect) in
+        IsMade D.means events.now.list trace left due result (progress_of board.old course.old) (progress_of board.new course.new) watch.new (W.told out.old) (W.told out.new) }
 {
     if left < BODY_COST {
         walk(board, events, course, left, trace, out)?;
@@ -236,9 +230,8 @@ fn enter<D: Device, W: Sink>(
     requires room { HasRoom course.old left }
     requires course { IsOnCourse D.means events.now board.old course.old }
     ensures course { IsOnCourse D.means events.now board.new course.new }
-    ensures round { IfOk result (λ told. record { told = told; progress = progress_of board.new course.new; watch = watch.new } ≡ round_entry D.means events.now.list left (progress_of board.old course.old) watch.old entry) }
-    ensures tells { let due = round_entry D.means events.now.list left (progress_of board.old course.old) watch.old entry in
-        Tells D.means events.now.list trace (steps_made left due.told) (is_ok result) (progress_of board.old course.old) (progress_of board.new course.new) (W.told out.old) (W.told out.new) }
+    ensures made { let due = round_entry D.means events.now.list left (progress_of board.old course.old) watch.old entry in
+        IsMade D.means events.now.list trace left due result (progress_of board.old course.old) (progress_of board.new course.new) watch.new (W.told out.old) (W.told out.new) }
 {
     match entry {
         Entry::Refused(kind) => Ok(Round::Failed(kind, 0)),
@@ -261,9 +254,8 @@ fn fuse<D: Device, W: Sink>(
     requires room { HasRoom course.old left }
     requires course { IsOnCourse D.means events.now board.old course.old }
     ensures course { IsOnCourse D.means events.now board.new course.new }
-    ensures round { IfOk result (λ told. record { told = told; progress = progress_of board.new course.new; watch = watch.new } ≡ round_fuse D.means events.now.list left (progress_of board.old course.old) watch.old entry) }
-    ensures tells { let due = round_fuse D.means events.now.list left (progress_of board.old course.old) watch.old entry in
-        Tells D.means events.now.list trace (steps_made left due.told) (is_ok result) (progress_of board.old course.old) (progress_of board.new course.new) (W.told out.old) (W.told out.new) }
+    ensures made { let due = round_fuse D.means events.now.list left (progress_of board.old course.old) watch.old entry in
+        IsMade D.means events.now.list trace left due result (progress_of board.old course.old) (progress_of board.new course.new) watch.new (W.told out.old) (W.told out.new) }
 {
     match entry {
         Entry::Refused(kind) => part(board, watch, events, course, trace, out, left, kind),
@@ -290,9 +282,8 @@ fn carry_judged<D: Device, W: Sink>(
     requires room { HasRoom course.old left }
     requires course { IsOnCourse D.means events.now board.old course.old }
     ensures course { IsOnCourse D.means events.now board.new course.new }
-    ensures round { IfOk result (λ told. record { told = told; progress = progress_of board.new course.new; watch = watch.new } ≡ round_verdict D.means events.now.list left (progress_of board.old course.old) watch.old (judge_body board.old watch.old)) }
-    ensures tells { let due = round_verdict D.means events.now.list left (progress_of board.old course.old) watch.old (judge_body board.old watch.old) in
-        Tells D.means events.now.list trace (steps_made left due.told) (is_ok result) (progress_of board.old course.old) (progress_of board.new course.new) (W.told out.old) (W.told out.new) }
+    ensures made { let due = round_verdict D.means events.now.list left (progress_of board.old course.old) watch.old (judge_body board.old watch.old) in
+        IsMade D.means events.now.list trace left due result (progress_of board.old course.old) (progress_of board.new course.new) watch.new (W.told out.old) (W.told out.new) }
 {
     match judged {
         Ok(prepared) => carry_out(board, watch, events, course, trace, out, left, &prepared),
@@ -316,9 +307,8 @@ fn body_anywhere<D: Device, W: Sink>(
     requires room { HasRoom course.old left }
     requires course { IsOnCourse D.means events.now board.old course.old }
     ensures course { IsOnCourse D.means events.now board.new course.new }
-    ensures round { IfOk result (λ told. record { told = told; progress = progress_of board.new course.new; watch = watch.new } ≡ round_verdict D.means events.now.list left (progress_of board.old course.old) watch.old (judge_body board.old watch.old)) }
-    ensures tells { let due = round_verdict D.means events.now.list left (progress_of board.old course.old) watch.old (judge_body board.old watch.old) in
-        Tells D.means events.now.list trace (steps_made left due.told) (is_ok result) (progress_of board.old course.old) (progress_of board.new course.new) (W.told out.old) (W.told out.new) }
+    ensures made { let due = round_verdict D.means events.now.list left (progress_of board.old course.old) watch.old (judge_body board.old watch.old) in
+        IsMade D.means events.now.list trace left due result (progress_of board.old course.old) (progress_of board.new course.new) watch.new (W.told out.old) (W.told out.new) }
 {
     let judged = judge_body(board, watch);
     carry_judged(board, watch, events, course, trace, out, left, judged)
@@ -340,9 +330,8 @@ fn body<D: Device, W: Sink>(
     requires room { HasRoom course.old left }
     requires course { IsOnCourse D.means events.now board.old course.old }
     ensures course { IsOnCourse D.means events.now board.new course.new }
-    ensures round { IfOk result (λ told. record { told = told; progress = progress_of board.new course.new; watch = watch.new } ≡ round_verdict D.means events.now.list left (progress_of board.old course.old) watch.old (judge_body board.old watch.old)) }
-    ensures tells { let due = round_verdict D.means events.now.list left (progress_of board.old course.old) watch.old (judge_body board.old watch.old) in
-        Tells D.means events.now.list trace (steps_made left due.told) (is_ok result) (progress_of board.old course.old) (progress_of board.new course.new) (W.told out.old) (W.told out.new) }
+    ensures made { let due = round_verdict D.means events.now.list left (progress_of board.old course.old) watch.old (judge_body board.old watch.old) in
+        IsMade D.means events.now.list trace left due result (progress_of board.old course.old) (progress_of board.new course.new) watch.new (W.told out.old) (W.told out.new) }
 {
     if left < BODY_COST || !is_open(board.pc()) {
         // The name keeps the answer of the path below in registers: it saves 17 instructions a step.
@@ -369,9 +358,8 @@ fn make<D: Device, W: Sink>(
     requires room { HasRoom course.old left }
     requires course { IsOnCourse D.means events.now board.old course.old }
     ensures course { IsOnCourse D.means events.now board.new course.new }
-    ensures round { IfOk result (λ told. record { told = told; progress = progress_of board.new course.new; watch = watch.new } ≡ round_due D.means events.now.list left (progress_of board.old course.old) watch.old (turn_of next)) }
-    ensures tells { let due = round_due D.means events.now.list left (progress_of board.old course.old) watch.old (turn_of next) in
-        Tells D.means events.now.list trace (steps_made left due.told) (is_ok result) (progress_of board.old course.old) (progress_of board.new course.new) (W.told out.old) (W.told out.new) }
+    ensures made { let due = round_due D.means events.now.list left (progress_of board.old course.old) watch.old (turn_of next) in
+        IsMade D.means events.now.list trace left due result (progress_of board.old course.old) (progress_of board.new course.new) watch.new (W.told out.old) (W.told out.new) }
 {
     match next {
         Next::Enter(entry) => enter(board, watch, events, course, trace, out, left, entry),
@@ -398,9 +386,8 @@ fn dispatch<D: Device, W: Sink>(
     requires room { HasRoom course.old left }
     requires course { IsOnCourse D.means events.now board.old course.old }
     ensures course { IsOnCourse D.means events.now board.new course.new }
-    ensures round { IfOk result (λ told. record { told = told; progress = progress_of board.new course.new; watch = watch.new } ≡ round_due D.means events.now.list left (progress_of board.old course.old) watch.old (judge_turn d board.old watch.old)) }
-    ensures tells { let due = round_due D.means events.now.list left (progress_of board.old course.old) watch.old (judge_turn d board.old watch.old) in
-        Tells D.means events.now.list trace (steps_made left due.told) (is_ok result) (progress_of board.old course.old) (progress_of board.new course.new) (W.told out.old) (W.told out.new) }
+    ensures made { let due = round_due D.means events.now.list left (progress_of board.old course.old) watch.old (judge_turn d board.old watch.old) in
+        IsMade D.means events.now.list trace left due result (progress_of board.old course.old) (progress_of board.new course.new) watch.new (W.told out.old) (W.told out.new) }
 {
     let next = judge_dispatch(d, board, watch);
     make(board, watch, events, course, trace, out, left, next)
@@ -424,9 +411,8 @@ pub fn round<D: Device, W: Sink>(
     requires room { HasRoom course.old left }
     requires course { IsOnCourse D.means events.now board.old course.old }
     ensures course { IsOnCourse D.means events.now board.new course.new }
-    ensures round { IfOk result (λ told. record { told = told; progress = progress_of board.new course.new; watch = watch.new } ≡ round D.means events.now.list d left (progress_of board.old course.old) watch.old) }
-    ensures tells { let due = round D.means events.now.list d left (progress_of board.old course.old) watch.old in
-        Tells D.means events.now.list trace (steps_made left due.told) (is_ok result) (progress_of board.old course.old) (progress_of board.new course.new) (W.told out.old) (W.told out.new) }
+    ensures made { let due = round D.means events.now.list d left (progress_of board.old course.old) watch.old in
+        IsMade D.means events.now.list trace left due result (progress_of board.old course.old) (progress_of board.new course.new) watch.new (W.told out.old) (W.told out.new) }
 {
     match board.halted() {
         Some(_) => Ok(halt(watch)),

@@ -1,11 +1,12 @@
 -- What the end of a chain with direct services says: its services, the state, and where the sink failed.
-use Rattle.std.proofs.Common.{◌≡◌, ℕ, zero, suc, ◌+◌, ◌-◌, ◌<◌, ◌≤◌, Bool, true, false, List, [], ◌++◌, refl, sym, ap, ◌∙◌, subst, arith, append_assoc}
-use Rattle.std.specs.Prelude.{IsTrue}
+use Rattle.std.proofs.Common.{◌≡◌, ℕ, zero, suc, ◌+◌, ◌-◌, ◌<◌, ◌≤◌, Bool, true, false, List, [], ◌++◌, inl, inr, refl, sym, ap, ◌∙◌, subst, arith, append_assoc}
+use Rattle.std.specs.Prelude.{◌⊎◌, IsTrue}
 use Rattle.std.proofs.lemmas.List.{append-nil}
 use Rattle.std.proofs.lemmas.Bool.{false≢true}
 use Rattle.board_outside.specs.Sink.{SinkView, Writes}
 use Rattle.board_outside.proofs.Writing.{then_writes, stops_writing}
 use Rattle.device_model.specs.Meanings.{Meanings, IsSound as IsSoundDevice}
+use Rattle.hart_report.specs.Text.{StopsAfter}
 use Rattle.hart_report.proofs.Texts.{same_text}
 use Rattle.hart_board.specs.State.{State}
 use Rattle.hart_board.specs.Valid.{IsBoard}
@@ -24,16 +25,17 @@ use Rattle.chain_core.specs.declared.chain_end.ChainEnd.{ChainEnd}
 use Rattle.chain_core.specs.declared.chain_end.ChainEnd.TheVariants.{Done, BudgetSpent, SinkFailed, Broken as BrokenOff}
 use Rattle.chain_core.specs.declared.round.Round.{Round}
 use Rattle.chain_core.specs.declared.round.Round.TheVariants.{Made, Failed, Ended as RoundEnded, Spent}
-use Rattle.chain_core.proofs.ChainEnds.{agrees, same_report}
+use Rattle.chain_core.proofs.ChainEnds.{agrees}
 use Rattle.chain_direct.specs.DirectMoves.{direct_machine, direct_start}
 use Rattle.chain_direct.specs.DirectText.{text_after, text_to, direct_end, direct_run, dead_in_run, direct_board, direct_report}
 use Rattle.chain_direct.specs.DirectWatched.{DirectWatched, nothing_direct}
-use Rattle.chain_direct.specs.DirectChain.{begun_to, StopsInStep, AgreesOver, AgreesWhereOver}
+use Rattle.chain_direct.specs.DirectChain.{begun_to, StopsInStep, StopsDirect, AgreesOver, AgreesWhereOver}
 use Rattle.chain_direct.specs.DirectRounds.{direct_round}
 use Rattle.chain_direct.proofs.DirectSoft.{text_more}
 use Rattle.chain_direct.proofs.DirectStanding.{DirectStood, DirectFinal, DirectHalt, DirectMeans}
 use Rattle.chain_direct.proofs.DirectRoundMeans.{direct_means}
 use Rattle.chain_direct.proofs.DirectLoop.{direct_first}
+use Rattle.chain_core.specs.Both.{Starts}
 
 module _ (m : Meanings) (es : List Event) (sound : IsSoundDevice m) (from : ℕ) (d : Dispatcher) (bound : ℕ) (b : State) where
   -- how it ends, and what holds then
@@ -65,11 +67,11 @@ module _ (m : Meanings) (es : List Event) (sound : IsSoundDevice m) (from : ℕ)
   ends p w st = ends_in bound p w 0 st (omega arith)
 
   module _ (e : DirectEnds) where
-    pub never_fails : is_whole (direct_end m es d bound b).end ≡ true
+    never_fails : is_whole (direct_end m es d bound b).end ≡ true
     never_fails = ap (λ (k : Ended). is_whole k.end) e.final.ends ∙ e.whole
 
     -- the services that are read off the board's run
-    pub services_are : begun_to m es b (direct_end m es d bound b).steps ≡ services_within (direct_machine m es) d bound (direct_start m es b)
+    services_are : begun_to m es b (direct_end m es d bound b).steps ≡ services_within (direct_machine m es) d bound (direct_start m es b)
     services_are = ap (λ (k : Ended). begun_to m es b k.steps) e.final.ends ∙ e.final.services
 
     -- ---- the state
@@ -87,7 +89,7 @@ module _ (m : Meanings) (es : List Event) (sound : IsSoundDevice m) (from : ℕ)
     done_agrees (BrokenOff kind bodies) h = tt
     done_agrees SinkFailed h = tt
 
-    pub state_is : AgreesWhereOver (direct_end m es d bound b).end (direct_board m es d bound b) (direct_run m es bound b)
+    state_is : AgreesWhereOver (direct_end m es d bound b).end (direct_board m es d bound b) (direct_run m es bound b)
     state_is = done_agrees (direct_end m es d bound b).end (λ done. e.halt (subst (λ (k : Ended). IsTrue (is_done k.end)) e.final.ends done))
 
 -- ---- the text
@@ -119,15 +121,23 @@ module _ (m : Meanings) (es : List Event) (b : State) (trace : Bool) where
       (same_text (sym (ap (text_to m es trace b) (sym split) ∙ (g.is ∙ ap (λ l. l ++ g.more) (text_more m es b trace h.k))))
       (stops_writing g.more (then_writes h.whole h.broken)))
 
-pub report_is : (m : Meanings) (es : List Event) (d : Dispatcher) (bound : ℕ) (b board : State) (dead : List Bool) (ended : Ended) → ended ≡ direct_end m es d bound b → board ≡ direct_board m es d bound b → (IsTrue (is_done ended.end) → dead ≡ dead_in_run (direct_run m es bound b)) → report m dead board ended.end ended.steps ≡ direct_report m es d bound b
-report_is m es d bound b board dead ended e is h =
-    let whole = dead_in_run (direct_run m es bound b) in
-    same_report m dead whole board ended.end ended.steps h
-    ∙ (ap (λ (q : State). report m whole q ended.end ended.steps) is
-    ∙ ap (λ (k : Ended). report m whole (direct_board m es d bound b) k.end k.steps) e)
-
 -- ---- from the start
-pub direct_from : (m : Meanings) (es : List Event) (sound : IsSoundDevice m) (d : Dispatcher) (bound : ℕ) (b : State) → IsBoard m b → AreEventsFrom b.outside.clic.shape.inputs 0 es → HasDispatcher d b.memory.rom → b.csrs.mil ≡ 0 → DirectEnds m es sound 0 d bound b
-direct_from m es sound d bound b valid events has level =
+direct_from : {m : Meanings} {es : List Event} (sound : IsSoundDevice m) {d : Dispatcher} (bound : ℕ) {b : State} → Starts m es d b → DirectEnds m es sound 0 d bound b
+direct_from {m = m} {es = es} sound {d = d} bound {b = b} starts =
     let p : Progress = record { board = with_events m 0 es b; bodies = 0; depth = 0; services = 0 } in
-    ends m es sound 0 d bound b p nothing_direct (direct_first m es sound d bound b p nothing_direct valid events has level refl refl)
+    ends m es sound 0 d bound b p nothing_direct (direct_first sound p nothing_direct starts refl refl)
+
+module _ {m : Meanings} {es : List Event} (sound : IsSoundDevice m) {d : Dispatcher} (bound : ℕ) {b : State} (starts : Starts m es d b) where
+  pub never_failed : is_whole (direct_end m es d bound b).end ≡ true
+  never_failed = never_fails m es sound 0 d bound b (direct_from sound bound starts)
+
+  pub services_from : begun_to m es b (direct_end m es d bound b).steps ≡ services_within (direct_machine m es) d bound (direct_start m es b)
+  services_from = services_are m es sound 0 d bound b (direct_from sound bound starts)
+
+  pub state_from : AgreesWhereOver (direct_end m es d bound b).end (direct_board m es d bound b) (direct_run m es bound b)
+  state_from = state_is m es sound 0 d bound b (direct_from sound bound starts)
+
+-- where the sink failed, that was in the report, or in the steps
+pub stops_by : (m : Meanings) (es : List Event) (d : Dispatcher) (trace : Bool) (bound : ℕ) (b board : State) (o v : SinkView) → ((board ≡ direct_board m es d bound b) × StopsAfter o v (text_to m es trace b (direct_end m es d bound b).steps) (direct_report m es d bound b)) ⊎ StopsInStep m es d trace bound b board o v → StopsDirect m es d trace bound b board o v
+stops_by m es d trace bound b board o v (inl h) = inl (record { board = h.0; text = h.1 })
+stops_by m es d trace bound b board o v (inr h) = inr h

@@ -14,7 +14,7 @@ use Rattle.chain_moves.specs.Watched.{watched_of}
 use Rattle.chain_moves.specs.Beside.{Rest, board_of}
 use Rattle.chain_moves.specs.Related.{Related}
 use Rattle.chain_core.specs.Progress.{Progress, goes, progress_at}
-use Rattle.chain_core.specs.Rounds.{steps_made}
+use Rattle.chain_core.specs.Rounds.{Rounded, steps_made}
 use Rattle.chain_moves.specs.declared.broken.Broken.{Broken}
 use Rattle.chain_moves.specs.declared.dispatcher.Dispatcher.{Dispatcher}
 use Rattle.chain_core.specs.declared.chain_end.ChainEnd.{ChainEnd}
@@ -31,7 +31,6 @@ use Rattle.chain_direct.specs.DirectBeside.{direct_board_of}
 use Rattle.chain_direct.specs.DirectRelated.{DirectRelated}
 use Rattle.chain_direct.specs.DirectWatched.{DirectWatched}
 use Rattle.chain_direct.specs.DirectChain.{begun_to}
-use Rattle.chain_direct.specs.DirectRounds.{DirectRounded}
 
 module _ (m : Meanings) (es : List Event) (from : ℕ) (d : Dispatcher) (bound : ℕ) (b : State) where
   abbrev machine : Machine Kind Directed Listed
@@ -88,7 +87,7 @@ module _ (m : Meanings) (es : List Event) (from : ℕ) (d : Dispatcher) (bound :
   DirectMeans n Ended p w = DirectFinal (Done n p.bodies (p.services + w.begun)) n p × DirectHalt n p w
   DirectMeans n Spent p w = DirectFinal BudgetSpent bound p
 
-  abbrev pub DirectSays : ℕ → DirectRounded → Type 0
+  abbrev pub DirectSays : ℕ → Rounded DirectWatched → Type 0
   DirectSays n o = DirectMeans n o.told o.progress o.watch
 
   -- the steps of a round are made before the end

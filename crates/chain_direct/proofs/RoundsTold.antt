@@ -1,5 +1,5 @@
 -- What a round of a direct service adds to the text.
-use Rattle.std.proofs.Common.{◌≡◌, ℕ, ◌+◌, Bool, true, false, List, ◌++◌, Option, Some, Result, Ok, Err, sym, ap, ◌∙◌, subst, arith}
+use Rattle.std.proofs.Common.{◌≡◌, ℕ, ◌+◌, Bool, true, false, List, ◌++◌, Option, Some, Result, Ok, Err, refl, sym, ap, ◌∙◌, subst, arith}
 use Rattle.std.specs.Prelude.{nat_le}
 use Rattle.std.specs.Result.{IsErr, is_ok}
 use Rattle.std.proofs.lemmas.Bool.{false≢true}
@@ -11,8 +11,10 @@ use Rattle.hart_board.specs.declared.event.Event.{Event}
 use Rattle.chain_moves.specs.Cost.{body_cost}
 use Rattle.chain_core.specs.Progress.{Progress, goes}
 use Rattle.chain_core.specs.Text.{steps_text, Cut, Tells}
-use Rattle.chain_core.specs.Rounds.{steps_made}
+use Rattle.chain_core.specs.Rounds.{IsMade}
 use Rattle.chain_moves.specs.declared.broken.Broken.{Broken}
+use Rattle.chain_moves.specs.declared.broken.Broken.TheVariants.{HaltInHandler}
+use Rattle.chain_core.specs.declared.round.Round.TheVariants.{Failed}
 use Rattle.chain_core.proofs.Told.{nothing_told}
 use Rattle.chain_core.proofs.ChainEnds.{cut_text}
 use Rattle.chain_direct.specs.DirectWatched.{DirectWatched}
@@ -40,5 +42,5 @@ module _ (m : Meanings) (es : List Event) (trace : Bool) (p q : Progress) (o u v
   refused_told left t w test kind e = subst (λ test. BeginTells m es trace left t (round_tested m es left p w test).told true p p o o) (sym e) (nothing_told m es trace p o)
 
   -- nor where the board has halted
-  pub serving_told : (left : ℕ) (w : DirectWatched) (kept : List ℕ) (halted : Option ℕ) (code : ℕ) → halted ≡ Some code → Tells m es trace (steps_made left (round_serving m es left p w kept halted).told) true p p o o
-  serving_told left w kept halted code e = subst (λ halted. Tells m es trace (steps_made left (round_serving m es left p w kept halted).told) true p p o o) (sym e) (nothing_told m es trace p o)
+  pub serving_made : {E : Type 0} (left : ℕ) (w : DirectWatched) (kept : List ℕ) (halted : Option ℕ) (code : ℕ) → halted ≡ Some code → IsMade {E = E} m es trace left (round_serving m es left p w kept halted) (Ok (Failed HaltInHandler 0)) p p w o o
+  serving_made {E = E} left w kept halted code e = subst (λ halted. IsMade {E = E} m es trace left (round_serving m es left p w kept halted) (Ok (Failed HaltInHandler 0)) p p w o o) (sym e) (record { round = refl; tells = nothing_told m es trace p o })

@@ -28,7 +28,7 @@ use Rattle.chain_core.specs.declared.chain_end.ChainEnd.TheVariants.{Broken as B
 use Rattle.chain_core.specs.declared.round.Round.{Round}
 use Rattle.chain_core.specs.declared.round.Round.TheVariants.{Made, Failed, Ended as RoundEnded, Spent}
 use Rattle.chain_core.proofs.ChainLoop.{stood_first}
-use Rattle.chain_core.proofs.ChainEnds.{same_report}
+use Rattle.chain_core.proofs.Closed.{same_report}
 use Rattle.chain_core.proofs.Standing.{Stood, RoundMeans}
 use Rattle.chain_core.proofs.RoundMeans.{round_means}
 use Rattle.chain_direct.specs.Directed.{beside_none}
@@ -77,7 +77,7 @@ module _ (m : Meanings) (es : List Event) (sound : IsSoundDevice m) (d : Dispatc
   soft_all : Starts m es d b → SoftTo all
   soft_all s =
       let p : Progress = record { board = with_events m 0 es b; bodies = 0; depth = 0; services = 0 } in
-      soft_in bound p nothing_watched 0 (stood_first m es sound d bound b p nothing_watched s.valid s.events s.has s.level refl refl) (omega arith) (λ j l. absurd (omega (arith, l)))
+      soft_in bound p nothing_watched 0 (stood_first sound p nothing_watched s refl refl) (omega arith) (λ j l. absurd (omega (arith, l)))
 
   -- ---- the report
   dead_lifted : (r : Run Move Servicing) → dead_in_run (lifted_run r) ≡ dead_in r

@@ -3,8 +3,9 @@ ghost use Rattle.std.specs.Prelude.{◌≡◌, ◌+◌, ◌<◌, ◌^◌, true, 
 ghost use Rattle.board_outside.specs.Sink.{Writes};
 ghost use Rattle.chain_moves.specs.Words.{HasDispatcher};
 ghost use Rattle.chain_core.specs.End.{services_within};
-ghost use Rattle.chain_core.specs.Text.{report};
-ghost use Rattle.chain_core.specs.Chain.{is_whole, is_done};
+ghost use Rattle.chain_core.specs.Chain.{is_whole};
+ghost use Rattle.chain_core.specs.Both.{Starts};
+ghost use Rattle.chain_core.specs.Closing.{ComesTo, Closes};
 ghost use Rattle.chain_core.specs.declared.chain_end.ChainEnd.TheVariants.{Done, SinkFailed};
 ghost use Rattle.chain_direct.specs.DirectMoves.{direct_machine, direct_start};
 ghost use Rattle.chain_direct.specs.DirectWatched.{nothing_direct};
@@ -14,8 +15,8 @@ ghost use Rattle.chain_direct.specs.DirectChain.{begun_to, StopsInStep, StopsDir
 use crate::direct_rounds::direct_round;
 use crate::direct_watch::DirectWatch;
 use board_outside::{Sink, SinkFault};
-use chain_core::ending::put_report;
-use chain_core::{ChainEnd, Course, Ended, Round};
+use chain_core::ending::close;
+use chain_core::{ChainEnd, Course, Ended, Round, can_start};
 use chain_moves::Dispatcher;
 use device_model::Device;
 use hart_board::laws::kept_states_stay;
@@ -28,15 +29,16 @@ fn ended(end: ChainEnd, steps: u64) -> Ended
 }
 
 // The board has halted with no service live.
-fn done(course: &Course, watch: &DirectWatch, steps: u64) -> ChainEnd
+fn done(course: &Course, watch: &DirectWatch, steps: u64) -> Ended
     requires { course.now.services + watch.now.begun < 2 ^ 64 }
-    ensures { result ≡ Done steps course.now.bodies (course.now.services + watch.now.begun) }
+    ensures { result ≡ record { end = Done steps course.now.bodies (course.now.services + watch.now.begun); steps = steps } }
 {
-    ChainEnd::Done {
+    let end = ChainEnd::Done {
         steps,
         bodies: course.bodies,
         services: course.services + watch.begun(),
-    }
+    };
+    ended(end, steps)
 }
 
 // Rounds until the chain ends, with the lines of its steps and services.
@@ -49,17 +51,13 @@ fn advance<D: Device, W: Sink>(
     trace: bool,
     out: &mut W,
 ) -> Result<Ended, SinkFault>
-    requires has { HasDispatcher d board.old.memory.rom }
-    requires level { board.old.csrs.mil ≡ 0 }
+    requires starts { Starts D.means events.now.list d board.old }
     requires new { watch.old ≡ nothing_direct }
     requires shape { events.now.shape ≡ board.old.outside.clic.shape }
-    ensures end { IfOk result (λ ended. (ended ≡ direct_end D.means events.now.list d bound board.old) × (board.new ≡ direct_board D.means events.now.list d bound board.old)) }
-    ensures dead { IfOk result (λ ended. IsTrue (is_done ended.end) → watch.new.chained.dead ≡ dead_in_run (direct_run D.means events.now.list bound board.old)) }
-    ensures text { IfOk result (λ ended. Writes true (W.told out.old) (W.told out.new) (text_to D.means events.now.list trace board.old (direct_end D.means events.now.list d bound board.old).steps)) }
+    ensures ended { let due = direct_end D.means events.now.list d bound board.old in
+        IfOk result (λ ended. ComesTo due (direct_board D.means events.now.list d bound board.old) (dead_in_run (direct_run D.means events.now.list bound board.old)) (text_to D.means events.now.list trace board.old due.steps) ended board.new watch.new.chained.dead (W.told out.old) (W.told out.new)) }
     ensures stopped { IfErr result (λ fault. StopsInStep D.means events.now.list d trace bound board.old board.new (W.told out.old) (W.told out.new)) }
 {
-    board.in_range();
-    events.in_order();
     let ahead = take_due(board, events, 0, 0);
     let mut course = Course {
         bodies: 0,
@@ -84,22 +82,22 @@ fn advance<D: Device, W: Sink>(
                 let bodies = course.bodies;
                 return Ok(ended(ChainEnd::Broken { kind, bodies }, steps + count));
             }
-            Round::Ended => return Ok(ended(done(&course, watch, steps), steps)),
+            Round::Ended => return Ok(done(&course, watch, steps)),
             Round::Spent => return Ok(ended(ChainEnd::BudgetSpent, bound)),
         }
     }
 }
 
-// The report of a chain that ended so on this board.
-fn tell_end<D: Device, W: Sink>(
-    ended: &Ended,
+// The report of a chain whose rounds came to this end, where the sink didn't fail in them.
+fn close_chain<D: Device, W: Sink>(
+    rounds: Result<Ended, SinkFault>,
     watch: &DirectWatch,
     board: &Board<D>,
     out: &mut W,
-) -> Result<(), SinkFault>
-    ensures { Writes (is_ok result) (W.told out.old) (W.told out.new) (report D.means watch.now.chained.dead board.now ended.now.end ended.now.steps) }
+) -> ChainEnd
+    ensures { Closes D.means rounds watch.now.chained.dead board.now result (W.told out.old) (W.told out.new) }
 {
-    put_report(ended, &watch.chained, board, out)
+    close(rounds, &watch.chained, board, out)
 }
 
 /// Runs the board under its dispatcher with these events, at most so many steps, as the machine with
@@ -130,14 +128,8 @@ pub fn chain_direct<D: Device, W: Sink>(
     ensures state { AgreesWhereOver (direct_end D.means events.now.list dispatcher bound board.old).end (direct_board D.means events.now.list dispatcher bound board.old) (direct_run D.means events.now.list bound board.old) }
     ensures kept { board.new.kept ≡ board.old.kept }
 {
-    board.in_range();
-    events.in_order();
+    can_start(board, dispatcher, events);
     kept_states_stay::<D>();
-    match advance(board, watch, dispatcher, events, bound, trace, out) {
-        Ok(ended) => match tell_end(&ended, watch, board, out) {
-            Ok(()) => ended.end,
-            Err(_) => ChainEnd::SinkFailed,
-        },
-        Err(_) => ChainEnd::SinkFailed,
-    }
+    let rounds = advance(board, watch, dispatcher, events, bound, trace, out);
+    close_chain(rounds, watch, board, out)
 }

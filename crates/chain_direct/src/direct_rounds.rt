@@ -7,11 +7,10 @@ ghost use Rattle.chain_moves.specs.Bytes.{revived_at};
 ghost use Rattle.chain_moves.specs.Cost.{body_cost};
 ghost use Rattle.chain_moves.specs.Judge.{judge_turn};
 ghost use Rattle.chain_core.specs.Progress.{progress_of, HasRoom, IsOnCourse};
-ghost use Rattle.chain_core.specs.Rounds.{steps_made, round as chained_round};
-ghost use Rattle.chain_core.specs.Text.{Tells};
+ghost use Rattle.chain_core.specs.Rounds.{round as chained_round, IsMade};
 ghost use Rattle.chain_moves.specs.declared.turn.Turn.TheVariants.{Enter, Fuse};
 ghost use Rattle.chain_moves.specs.declared.entry.Entry.TheVariants.{Admitted};
-ghost use Rattle.chain_direct.specs.DirectRounds.{hard_due, round_begun, round_begin, round_ended, round_direct_body, round_going, round_direct_due, round_serving, round_chained, BeginTells, RoundTells, direct_round};
+ghost use Rattle.chain_direct.specs.DirectRounds.{hard_due, round_begun, round_begin, round_ended, round_direct_body, round_going, round_direct_due, round_serving, round_chained, BeginTells, IsDirectMade, direct_round};
 
 use crate::direct_judging::{are_same, hard_due, judge_direct_body, test_begin};
 use crate::direct_telling::put_direct;
@@ -100,9 +99,8 @@ fn finish<D: Device, W: Sink>(
     requires room { HasRoom course.old left }
     requires course { IsOnCourse D.means events.now board.old course.old }
     ensures course { IsOnCourse D.means events.now board.new course.new }
-    ensures round { IfOk result (λ told. record { told = told; progress = progress_of board.new course.new; watch = watch.new } ≡ round_ended D.means events.now.list left (progress_of board.old course.old) watch.old kept.now (nat_le body_cost left)) }
-    ensures tells { let due = round_ended D.means events.now.list left (progress_of board.old course.old) watch.old kept.now (nat_le body_cost left) in
-        Tells D.means events.now.list trace (steps_made left due.told) (is_ok result) (progress_of board.old course.old) (progress_of board.new course.new) (W.told out.old) (W.told out.new) }
+    ensures made { let due = round_ended D.means events.now.list left (progress_of board.old course.old) watch.old kept.now (nat_le body_cost left) in
+        IsMade D.means events.now.list trace left due result (progress_of board.old course.old) (progress_of board.new course.new) watch.new (W.told out.old) (W.told out.new) }
 {
     if left < STEP_COST {
         walk(board, events, course, left, trace, out)?;
@@ -132,9 +130,8 @@ fn carry_out<D: Device, W: Sink>(
     requires room { HasRoom course.old left }
     requires course { IsOnCourse D.means events.now board.old course.old }
     ensures course { IsOnCourse D.means events.now board.new course.new }
-    ensures round { IfOk result (λ told. record { told = told; progress = progress_of board.new course.new; watch = watch.new } ≡ round_direct_body D.means events.now.list left (progress_of board.old course.old) watch.old (nat_le body_cost left) (revived_at (place at width) width watch.old.chained.dead)) }
-    ensures tells { let due = round_direct_body D.means events.now.list left (progress_of board.old course.old) watch.old (nat_le body_cost left) (revived_at (place at width) width watch.old.chained.dead) in
-        Tells D.means events.now.list trace (steps_made left due.told) (is_ok result) (progress_of board.old course.old) (progress_of board.new course.new) (W.told out.old) (W.told out.new) }
+    ensures made { let due = round_direct_body D.means events.now.list left (progress_of board.old course.old) watch.old (nat_le body_cost left) (revived_at (place at width) width watch.old.chained.dead) in
+        IsMade D.means events.now.list trace left due result (progress_of board.old course.old) (progress_of board.new course.new) watch.new (W.told out.old) (W.told out.new) }
 {
     if left < STEP_COST {
         walk(board, events, course, left, trace, out)?;
@@ -163,9 +160,8 @@ fn go_on<D: Device, W: Sink>(
     requires room { HasRoom course.old left }
     requires course { IsOnCourse D.means events.now board.old course.old }
     ensures course { IsOnCourse D.means events.now board.new course.new }
-    ensures round { IfOk result (λ told. record { told = told; progress = progress_of board.new course.new; watch = watch.new } ≡ round_going D.means events.now.list left (progress_of board.old course.old) watch.old verdict) }
-    ensures tells { let due = round_going D.means events.now.list left (progress_of board.old course.old) watch.old verdict in
-        Tells D.means events.now.list trace (steps_made left due.told) (is_ok result) (progress_of board.old course.old) (progress_of board.new course.new) (W.told out.old) (W.told out.new) }
+    ensures made { let due = round_going D.means events.now.list left (progress_of board.old course.old) watch.old verdict in
+        IsMade D.means events.now.list trace left due result (progress_of board.old course.old) (progress_of board.new course.new) watch.new (W.told out.old) (W.told out.new) }
 {
     match verdict {
         Verdict::Refused(kind) => Ok(Round::Failed(kind, 0)),
@@ -191,9 +187,8 @@ fn make<D: Device, W: Sink>(
     requires room { HasRoom course.old left }
     requires course { IsOnCourse D.means events.now board.old course.old }
     ensures course { IsOnCourse D.means events.now board.new course.new }
-    ensures round { IfOk result (λ told. record { told = told; progress = progress_of board.new course.new; watch = watch.new } ≡ round_direct_due D.means events.now.list left (progress_of board.old course.old) watch.old kept.now verdict) }
-    ensures tells { let due = round_direct_due D.means events.now.list left (progress_of board.old course.old) watch.old kept.now verdict in
-        Tells D.means events.now.list trace (steps_made left due.told) (is_ok result) (progress_of board.old course.old) (progress_of board.new course.new) (W.told out.old) (W.told out.new) }
+    ensures made { let due = round_direct_due D.means events.now.list left (progress_of board.old course.old) watch.old kept.now verdict in
+        IsMade D.means events.now.list trace left due result (progress_of board.old course.old) (progress_of board.new course.new) watch.new (W.told out.old) (W.told out.new) }
 {
     match verdict {
         DirectVerdict::Ends => finish(board, watch, events, course, trace, out, left, kept),
@@ -217,9 +212,8 @@ fn serve<D: Device, W: Sink>(
     requires room { HasRoom course.old left }
     requires course { IsOnCourse D.means events.now board.old course.old }
     ensures course { IsOnCourse D.means events.now board.new course.new }
-    ensures round { IfOk result (λ told. record { told = told; progress = progress_of board.new course.new; watch = watch.new } ≡ round_serving D.means events.now.list left (progress_of board.old course.old) watch.old kept.now (D.means.halted board.old.outside.device)) }
-    ensures tells { let due = round_serving D.means events.now.list left (progress_of board.old course.old) watch.old kept.now (D.means.halted board.old.outside.device) in
-        Tells D.means events.now.list trace (steps_made left due.told) (is_ok result) (progress_of board.old course.old) (progress_of board.new course.new) (W.told out.old) (W.told out.new) }
+    ensures made { let due = round_serving D.means events.now.list left (progress_of board.old course.old) watch.old kept.now (D.means.halted board.old.outside.device) in
+        IsMade D.means events.now.list trace left due result (progress_of board.old course.old) (progress_of board.new course.new) watch.new (W.told out.old) (W.told out.new) }
 {
     match board.halted() {
         Some(_) => Ok(Round::Failed(Broken::HaltInHandler, 0)),
@@ -248,9 +242,8 @@ fn chain_on<D: Device, W: Sink>(
     requires room { HasRoom course.old left }
     requires course { IsOnCourse D.means events.now board.old course.old }
     ensures course { IsOnCourse D.means events.now board.new course.new }
-    ensures round { IfOk result (λ told. record { told = told; progress = progress_of board.new course.new; watch = watch.new } ≡ round_chained watch.old (chained_round D.means events.now.list d left (progress_of board.old course.old) watch.old.chained)) }
-    ensures tells { let due = chained_round D.means events.now.list d left (progress_of board.old course.old) watch.old.chained in
-        Tells D.means events.now.list trace (steps_made left due.told) (is_ok result) (progress_of board.old course.old) (progress_of board.new course.new) (W.told out.old) (W.told out.new) }
+    ensures made { let due = round_chained watch.old (chained_round D.means events.now.list d left (progress_of board.old course.old) watch.old.chained) in
+        IsMade D.means events.now.list trace left due result (progress_of board.old course.old) (progress_of board.new course.new) watch.new (W.told out.old) (W.told out.new) }
 {
     round(
         board,
@@ -283,9 +276,8 @@ pub fn direct_round<D: Device, W: Sink>(
     requires begun { watch.old.begun + left < 2 ^ 64 }
     requires course { IsOnCourse D.means events.now board.old course.old }
     ensures course { IsOnCourse D.means events.now board.new course.new }
-    ensures round { IfOk result (λ told. record { told = told; progress = progress_of board.new course.new; watch = watch.new } ≡ direct_round D.means events.now.list d left (progress_of board.old course.old) watch.old) }
-    ensures tells { let due = direct_round D.means events.now.list d left (progress_of board.old course.old) watch.old in
-        RoundTells D.means events.now.list trace left watch.old.kept (hard_due D.means board.old) due.told (is_ok result) (progress_of board.old course.old) (progress_of board.new course.new) (W.told out.old) (W.told out.new) }
+    ensures made { let due = direct_round D.means events.now.list d left (progress_of board.old course.old) watch.old in
+        IsDirectMade D.means events.now.list trace left watch.old.kept (hard_due D.means board.old) due result (progress_of board.old course.old) (progress_of board.new course.new) watch.new (W.told out.old) (W.told out.new) }
 {
     match watch.kept() {
         Some(kept) => serve(board, watch, events, course, trace, out, left, &kept),

@@ -1,5 +1,6 @@
+use Rattle.std.proofs.Common.{refl}
 use Rattle.chain_core.proofs.Told.{nothing_told}
 use Rattle.chain_core.proofs.rounds.enter.Goals as goal
 
-pub returns-in-Refused-clause-tells : goal.returns-in-Refused-clause-tells
-returns-in-Refused-clause-tells g c = rw c.in-Refused.is (nothing_told g.D.Device.means c.args.events.now.list c.args.trace _ _)
+pub returns-in-Refused-clause-made : goal.returns-in-Refused-clause-made
+returns-in-Refused-clause-made g c = rw c.in-Refused.is (record { round = refl; tells = nothing_told g.D.Device.means c.args.events.now.list c.args.trace _ _ })
