@@ -25,14 +25,17 @@ use Rattle.hart_board.specs.Access.{load, load_at, load_answer, store, store_at,
 use Rattle.chain_moves.specs.Slot.{in_slot}
 use Rattle.chain_moves.specs.declared.mark.Mark.{Mark}
 use Rattle.chain_moves.specs.Bytes.{some_byte, is_dead, is_hidden, in_live_frame, marked, revived_at}
-use Rattle.chain_lint.specs.Flow.{Value, Entry, Const, Stack, Unknown, StackWord, Flow, value_of, depth, found, with_stack_word}
-use Rattle.chain_lint.specs.Transfer.{loaded_value, stored_words, value_or_unknown}
-use Rattle.chain_lint.specs.Rules.{first_why, access_rules_at, is_bad_stack, is_bad_const, is_own_word, is_absent, in_region}
-use Rattle.chain_lint.specs.declared.region.Region.{Region}
+use Rattle.chain_flow.specs.Flow.{Flow, value_of, depth, found, with_stack_word}
+use Rattle.chain_flow.specs.declared.value.Value.{Value}
+use Rattle.chain_flow.specs.declared.value.Value.TheVariants.{Entry, Const, Stack, Unknown}
+use Rattle.chain_flow.specs.declared.stack_word.StackWord.{StackWord}
+use Rattle.chain_flow.specs.Transfer.{loaded_value, stored_words, value_or_unknown}
+use Rattle.chain_flow.specs.Rules.{first_why, access_rules_at, is_bad_stack, is_bad_const, is_own_word, is_absent, in_region}
+use Rattle.chain_flow.specs.declared.region.Region.{Region}
 use Rattle.chain_lint.proofs.Values.{Holds}
 use Rattle.chain_lint.proofs.Marking.{none_of, none_from, marked_stays, alive_from, alive_at}
 use Rattle.chain_lint.proofs.Words.{AreOwn, Stays, stays_within, words_stay, found_own, stored_own}
-use Rattle.chain_lint.proofs.Looks.{none_first}
+use Rattle.chain_flow.proofs.Looks.{none_first}
 use Rattle.chain_lint.proofs.Handlers.{IsHart, IsFramed, Knows}
 
 -- ---- what a load leaves

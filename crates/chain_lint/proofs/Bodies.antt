@@ -29,14 +29,16 @@ use Rattle.chain_moves.specs.Machine.{Before, After, Makes}
 use Rattle.chain_moves.specs.declared.broken.Broken.{Broken}
 use Rattle.chain_moves.specs.declared.broken.Broken.TheVariants.{CsrTouched, RegisterLost, ReadsDispatch, EnteredDispatch, Exception}
 use Rattle.chain_moves.specs.declared.moves.Move.TheVariants.{Body}
-use Rattle.chain_lint.specs.Flow.{Flow, value_of}
-use Rattle.chain_lint.specs.Transfer.{flow_after}
-use Rattle.chain_lint.specs.Rules.{is_bad_half, is_outside, is_other_system}
-use Rattle.chain_lint.specs.Walk.{all_arrived, depth_of}
-use Rattle.chain_lint.specs.declared.region.Region.{Region}
+use Rattle.chain_flow.specs.Flow.{Flow, value_of}
+use Rattle.chain_flow.specs.Transfer.{flow_after}
+use Rattle.chain_flow.specs.Rules.{is_bad_half, is_outside, is_other_system}
+use Rattle.chain_flow.specs.Walk.{all_arrived, depth_of}
+use Rattle.chain_flow.specs.declared.region.Region.{Region}
 use Rattle.chain_lint.proofs.Walks.{Continues, continues, uses_grow, all_new, IsOf}
 use Rattle.chain_lint.proofs.Marking.{none_of, none_from}
-use Rattle.chain_lint.proofs.Looks.{Looks, looks, keeps, place_rom, loaded_half, same_fetch, back_outside}
+use Rattle.hart_memory.proofs.PlaceLemmas.{place_rom}
+use Rattle.chain_flow.proofs.Looks.{Looks, looks, keeps}
+use Rattle.chain_lint.proofs.Fetches.{loaded_code, same_fetch, back_outside}
 use Rattle.chain_lint.proofs.Handlers.{IsFramed, Knows, weakens, IsBack, Went}
 use Rattle.chain_lint.proofs.Ones.{one, passes}
 use Rattle.chain_lint.proofs.Roms.{performed_rom}
@@ -229,7 +231,7 @@ module _ (m : Meanings) (es : List Event) (code : List ℕ) (region : Region) (s
           let l = looks code region s.pc c.flow c.after c.targets c.passes in
           let parts = or_parts (is_bad_half s.pc) (is_long (number_at code s.pc 2) && is_bad_half (word (s.pc + 2))) l.inside in
           let h = good_half s.dead s.pc parts.0 in
-          let long : is_long_at s.memory s.pc ≡ is_long (number_at code s.pc 2) = ap (λ o. is_long (word_or_zero o)) (loaded_half code s.memory s.pc inv.has_code parts.0) in
+          let long : is_long_at s.memory s.pc ≡ is_long (number_at code s.pc 2) = ap (λ o. is_long (word_or_zero o)) (loaded_code code s.memory s.pc inv.has_code parts.0) in
           goes_unless (Kept m code region) live Before (first_broken (first_tests s.dead s.pc)) s.bodies _
           (three_pass (in_slot s.pc) (not (holds s.pc 2)) (some_byte (is_hidden s.dead) s.pc 2) EnteredDispatch (Exception FETCH_FAULT) ReadsDispatch h.slot h.here h.shown)
           (goes_unless (Kept m code region) live Before (first_broken (second_tests (is_long_at s.memory s.pc) s.dead s.pc)) s.bodies _

@@ -21,7 +21,7 @@ use Rattle.chain_moves.proofs.Nested.{above}
 use Rattle.chain_moves.proofs.OneOfThree.{is_one}
 use Rattle.chain_lint.specs.Bound.{Use, level_cost, bound_below, bound}
 use Rattle.chain_lint.specs.Soundness.{IsSafe, IsBounded, AreAccepted}
-use Rattle.chain_lint.specs.declared.region.Region.{Region}
+use Rattle.chain_flow.specs.declared.region.Region.{Region}
 use Rattle.chain_lint.proofs.Services.{Suspended, Services}
 use Rattle.chain_lint.proofs.Invariant.{Inv}
 use Rattle.chain_lint.proofs.Enters.{IsAccepted, IsRegion, pointer_nested}

@@ -8,7 +8,7 @@ use Rattle.chain_moves.specs.Moves.{servicing_machine}
 use Rattle.chain_moves.specs.Start.{begun}
 use Rattle.chain_lint.specs.Bound.{Use}
 use Rattle.chain_lint.specs.Soundness.{Premises, IsAfter, AcceptsTo, YesIsSound, IsListedTo, BoundIsSound, ListedIsSafe}
-use Rattle.chain_lint.specs.declared.region.Region.{Region}
+use Rattle.chain_flow.specs.declared.region.Region.{Region}
 use Rattle.chain_lint.proofs.Invariant.{Inv}
 use Rattle.chain_lint.proofs.Runs.{before, at_start}
 use Rattle.chain_lint.proofs.Starts.{start_known, after_range}

@@ -14,10 +14,11 @@ use Rattle.chain_moves.specs.Servicing.{Live, Servicing, marks}
 use Rattle.chain_moves.specs.Bytes.{is_dead, marked}
 use Rattle.chain_moves.specs.Enter.{new_frame, pointer, pointer_by, table_address, table_word, enter_registers, entered}
 use Rattle.chain_moves.specs.Leave.{raised_pointer}
-use Rattle.chain_lint.specs.Flow.{Entry, Const, Stack, value_of, flow_at_start, entries}
-use Rattle.chain_lint.specs.Rules.{in_region}
-use Rattle.chain_lint.specs.Walk.{verdict}
-use Rattle.chain_lint.specs.declared.region.Region.{Region}
+use Rattle.chain_flow.specs.Flow.{value_of, flow_at_start, entries}
+use Rattle.chain_flow.specs.declared.value.Value.TheVariants.{Entry, Const, Stack}
+use Rattle.chain_flow.specs.Rules.{in_region}
+use Rattle.chain_flow.specs.Walk.{verdict}
+use Rattle.chain_flow.specs.declared.region.Region.{Region}
 use Rattle.chain_lint.proofs.Values.{Holds, AreWords}
 use Rattle.chain_lint.proofs.Marking.{marked_other}
 use Rattle.chain_lint.proofs.Words.{Stays}

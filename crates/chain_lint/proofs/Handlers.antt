@@ -9,11 +9,14 @@ use Rattle.hart_board.specs.State.{State}
 use Rattle.chain_moves.specs.Slot.{back}
 use Rattle.chain_moves.specs.Bytes.{is_dead}
 use Rattle.chain_moves.specs.Tests.{is_free}
-use Rattle.chain_lint.specs.Flow.{Value, Entry, Const, Stack, Unknown, StackWord, Flow, value_of, set_value, depth}
-use Rattle.chain_lint.specs.Transfer.{words_kept}
-use Rattle.chain_lint.specs.Rules.{is_bad_pointer}
-use Rattle.chain_lint.specs.Walk.{depth_of}
-use Rattle.chain_lint.specs.declared.region.Region.{Region}
+use Rattle.chain_flow.specs.Flow.{Flow, value_of, set_value, depth}
+use Rattle.chain_flow.specs.declared.value.Value.{Value}
+use Rattle.chain_flow.specs.declared.value.Value.TheVariants.{Entry, Const, Stack, Unknown}
+use Rattle.chain_flow.specs.declared.stack_word.StackWord.{StackWord}
+use Rattle.chain_flow.specs.Transfer.{words_kept}
+use Rattle.chain_flow.specs.Rules.{is_bad_pointer}
+use Rattle.chain_flow.specs.Walk.{depth_of}
+use Rattle.chain_flow.specs.declared.region.Region.{Region}
 use Rattle.chain_lint.proofs.Values.{Holds, Fits, AreWords, left_at, right_at, length-joined_left, length-joined_right, fits_set, length_set}
 use Rattle.chain_lint.proofs.Walks.{Weakens, IsOf}
 use Rattle.chain_lint.proofs.Words.{AreOwn, Stays, joined_left, joined_right, above_own}

@@ -10,9 +10,9 @@ use Rattle.chain_moves.specs.Machine.{When, Moved, Makes, Breaks, Ends, unless_b
 use Rattle.chain_moves.specs.Ranges.{IsInRange}
 use Rattle.chain_moves.specs.declared.broken.Broken.{Broken}
 use Rattle.chain_moves.specs.declared.moves.Move.{Move}
-use Rattle.chain_lint.specs.Rules.{in_region}
+use Rattle.chain_flow.specs.Rules.{in_region}
 use Rattle.chain_lint.specs.Soundness.{HasCode}
-use Rattle.chain_lint.specs.declared.region.Region.{Region}
+use Rattle.chain_flow.specs.declared.region.Region.{Region}
 use Rattle.chain_lint.proofs.Handlers.{IsHart}
 use Rattle.chain_lint.proofs.Services.{Services}
 

@@ -2,7 +2,7 @@ pub mod Values
 pub mod Walks
 pub mod Marking
 pub mod Words
-pub mod Looks
+pub mod Fetches
 pub mod Handlers
 pub mod Accesses
 pub mod Ones
@@ -17,17 +17,6 @@ pub mod Runs
 pub mod Starts
 pub mod Bounds
 pub mod Closed
-pub mod Joins
-pub mod Arrivals
 pub mod Loops
-pub mod Changes
-pub mod Codes
-pub mod Found
-pub mod Stepping
-pub mod Rising
-pub mod Targets
-pub mod Surveys
-pub mod Standing
-pub mod Depths
 pub mod Tabled
 pub mod PairWords

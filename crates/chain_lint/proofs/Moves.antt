@@ -33,10 +33,10 @@ use Rattle.chain_moves.specs.declared.broken.Broken.{Broken}
 use Rattle.chain_moves.specs.declared.broken.Broken.TheVariants.{HardVectored, NoDispatcher, StackBad, BadTable}
 use Rattle.chain_moves.specs.declared.moves.Move.{Move}
 use Rattle.chain_moves.specs.declared.moves.Move.TheVariants.{Enter, Body}
-use Rattle.chain_lint.specs.Walk.{verdict}
+use Rattle.chain_flow.specs.Walk.{verdict}
 use Rattle.chain_lint.specs.Soundness.{IsSafe}
-use Rattle.chain_lint.specs.declared.region.Region.{Region}
-use Rattle.chain_lint.specs.declared.verdict.Verdict.TheVariants.{Yes}
+use Rattle.chain_flow.specs.declared.region.Region.{Region}
+use Rattle.chain_flow.specs.declared.verdict.Verdict.TheVariants.{Yes}
 use Rattle.chain_lint.proofs.Handlers.{IsBack}
 use Rattle.chain_lint.proofs.Registers.{leave_same}
 use Rattle.chain_lint.proofs.Roms.{performed_rom, dead_before}

@@ -29,14 +29,17 @@ use Rattle.chain_moves.specs.Tests.{first_broken, access_tests, is_free}
 use Rattle.chain_moves.specs.declared.broken.Broken.{Broken}
 use Rattle.chain_moves.specs.declared.broken.Broken.TheVariants.{ReadsDispatch, WritesFrame}
 use Rattle.chain_moves.specs.Body.{hart, dead_after}
-use Rattle.chain_lint.specs.Flow.{Value, Entry, Const, Stack, Unknown, StackWord, Flow, value_of, set_value}
-use Rattle.chain_lint.specs.Transfer.{plus, address_of, immediate_value, sum_value, loaded_value, stored_words, words_kept, flow_after, targets}
-use Rattle.chain_lint.specs.Rules.{is_return, is_return_address, are_entries, is_entry, in_region, is_bad_pointer}
-use Rattle.chain_lint.specs.Rules.{is_free as is_free_here}
-use Rattle.chain_lint.specs.declared.region.Region.{Region}
+use Rattle.chain_flow.specs.Flow.{Flow, value_of, set_value}
+use Rattle.chain_flow.specs.declared.value.Value.{Value}
+use Rattle.chain_flow.specs.declared.value.Value.TheVariants.{Entry, Const, Stack, Unknown}
+use Rattle.chain_flow.specs.declared.stack_word.StackWord.{StackWord}
+use Rattle.chain_flow.specs.Transfer.{plus, address_of, immediate_value, sum_value, loaded_value, stored_words, words_kept, flow_after, targets}
+use Rattle.chain_flow.specs.Rules.{is_return, is_return_address, are_entries, is_entry, in_region, is_bad_pointer}
+use Rattle.chain_flow.specs.Rules.{is_free as is_free_here}
+use Rattle.chain_flow.specs.declared.region.Region.{Region}
 use Rattle.chain_lint.proofs.Values.{Holds, AreWords, plus_holds}
 use Rattle.chain_lint.proofs.Walks.{IsOf}
-use Rattle.chain_lint.proofs.Looks.{Keeps}
+use Rattle.chain_flow.proofs.Looks.{Keeps}
 use Rattle.chain_lint.proofs.Handlers.{IsHart, IsFramed, Knows, IsBack, Went, goes, keeps_going, sets_going}
 use Rattle.chain_lint.proofs.Accesses.{Leaves, load_leaves, Loads, loads, Stores, stores, IsSmall}
 

@@ -10,11 +10,11 @@ use Rattle.hart_memory.specs.declared.address_map.TheConstants.{RAM_BASE, BANK_L
 use Rattle.chain_moves.specs.Servicing.{Live, marks}
 use Rattle.chain_moves.specs.Bytes.{in_frame, in_live_frame}
 use Rattle.chain_moves.specs.Leave.{leave_registers, raised_pointer}
-use Rattle.chain_lint.specs.Flow.{Flow}
-use Rattle.chain_lint.specs.Rules.{in_region}
-use Rattle.chain_lint.specs.Walk.{Reached, walk, verdict}
-use Rattle.chain_lint.specs.declared.region.Region.{Region}
-use Rattle.chain_lint.specs.declared.verdict.Verdict.TheVariants.{Yes}
+use Rattle.chain_flow.specs.Flow.{Flow}
+use Rattle.chain_flow.specs.Rules.{in_region}
+use Rattle.chain_flow.specs.Walk.{Reached, walk, verdict}
+use Rattle.chain_flow.specs.declared.region.Region.{Region}
+use Rattle.chain_flow.specs.declared.verdict.Verdict.TheVariants.{Yes}
 use Rattle.chain_lint.proofs.Walks.{Has}
 use Rattle.chain_lint.proofs.Words.{Stays, stays_within, words_stay}
 use Rattle.chain_lint.proofs.Handlers.{IsFramed, Knows, IsBack}

@@ -16,7 +16,7 @@ use Rattle.chain_moves.specs.Moves.{servicing_machine}
 use Rattle.chain_moves.proofs.Begun.{slot_same, begun_inputs}
 use Rattle.chain_moves.proofs.Depth.{start_range, run_range, length-zeros}
 use Rattle.chain_lint.specs.Soundness.{Premises, IsAfter}
-use Rattle.chain_lint.specs.declared.region.Region.{Region}
+use Rattle.chain_flow.specs.declared.region.Region.{Region}
 use Rattle.chain_lint.proofs.Invariant.{Inv}
 use Rattle.chain_lint.proofs.Runs.{runs_to}
 

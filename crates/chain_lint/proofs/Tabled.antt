@@ -12,14 +12,14 @@ use Rattle.hart_memory.specs.declared.place.Place.TheVariants.{InRom}
 use Rattle.hart_memory.proofs.PlaceLemmas.{place_rom}
 use Rattle.chain_moves.specs.Slot.{in_slot}
 use Rattle.chain_moves.specs.Bytes.{some_byte}
-use Rattle.chain_lint.specs.Walk.{verdict}
+use Rattle.chain_flow.specs.Walk.{verdict}
 use Rattle.chain_lint.specs.Bound.{Use, bound}
 use Rattle.chain_lint.specs.Tables.{word_place, is_bad_word, IsWordAt, by_word, by_verdict, table_bound}
-use Rattle.chain_lint.specs.declared.region.Region.{Region}
-use Rattle.chain_lint.specs.declared.lint_why.LintWhy.{LintWhy}
+use Rattle.chain_flow.specs.declared.region.Region.{Region}
+use Rattle.chain_flow.specs.declared.lint_why.LintWhy.{LintWhy}
 use Rattle.chain_lint.specs.declared.pair.Pair.{Pair}
-use Rattle.chain_lint.specs.declared.verdict.Verdict.{Verdict}
-use Rattle.chain_lint.specs.declared.verdict.Verdict.TheVariants.{Yes, No}
+use Rattle.chain_flow.specs.declared.verdict.Verdict.{Verdict}
+use Rattle.chain_flow.specs.declared.verdict.Verdict.TheVariants.{Yes, No}
 use Rattle.chain_lint.specs.declared.table_bound.TableBound.TheVariants.{Bound, BadTable, Refused}
 
 word_in_rom : (at : ℕ) → is_bad_word at ≡ false → place at 4 ≡ InRom at

@@ -5,8 +5,10 @@ use Rattle.std.proofs.lemmas.List.{get_or-set_same, get_or-set_other, set_past, 
 use Rattle.std.proofs.lemmas.Bool.{cases_eq, cases_lt, eqb-true, cond_both, false≢true}
 use Rattle.hart_words.specs.TwosComplement.{word}
 use Rattle.hart_words.specs.Registers.{register, with_register}
-use Rattle.chain_lint.specs.Flow.{Value, Entry, Const, Stack, Unknown, value_of, set_value, is_same, same_or_unknown, joined_values}
-use Rattle.chain_lint.specs.Transfer.{plus}
+use Rattle.chain_flow.specs.Flow.{value_of, set_value, is_same, same_or_unknown, joined_values}
+use Rattle.chain_flow.specs.declared.value.Value.{Value}
+use Rattle.chain_flow.specs.declared.value.Value.TheVariants.{Entry, Const, Stack, Unknown}
+use Rattle.chain_flow.specs.Transfer.{plus}
 
 -- what a value says of a word, by the registers at the start
 abbrev pub Holds : List ℕ → Value → ℕ → Type 0

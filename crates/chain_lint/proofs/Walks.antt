@@ -2,11 +2,11 @@
 use Rattle.std.proofs.Common.{◌≡◌, ℕ, zero, suc, ◌≤◌, max, ◌⊎◌, inl, inr, ⊎_elim, cond, List, [], ◌∷◌, refl, sym, ap, ◌∙◌, subst, arith}
 use Rattle.std.specs.Prelude.{◌==◌, nat_lt}
 use Rattle.std.proofs.lemmas.Bool.{cond_both, eqb-true}
-use Rattle.chain_lint.specs.Flow.{Flow, joined, value_of}
-use Rattle.chain_lint.specs.Rules.{Looked, Refused, Passed, looked}
-use Rattle.chain_lint.specs.Walk.{Reached, arrived, all_arrived, depth_of, walk_on, walk}
-use Rattle.chain_lint.specs.declared.region.Region.{Region}
-use Rattle.chain_lint.specs.declared.verdict.Verdict.TheVariants.{Yes}
+use Rattle.chain_flow.specs.Flow.{Flow, joined, value_of}
+use Rattle.chain_flow.specs.Rules.{Looked, Refused, Passed, looked}
+use Rattle.chain_flow.specs.Walk.{Reached, arrived, all_arrived, depth_of, walk_on, walk}
+use Rattle.chain_flow.specs.declared.region.Region.{Region}
+use Rattle.chain_flow.specs.declared.verdict.Verdict.TheVariants.{Yes}
 
 -- what is said of a flow state is said of every join with it
 pub record Weakens (P : Flow → Type 0) : Type 0 where

@@ -6,7 +6,9 @@ use Rattle.hart_memory.specs.Bytes.{number_at, with_number}
 use Rattle.hart_memory.specs.declared.address_map.TheConstants.{RAM_BASE, BANK_LEN}
 use Rattle.hart_memory.proofs.NumberLemmas.{number_same, number-with_number_apart, number-with_number_same}
 use Rattle.chain_moves.specs.Bytes.{is_dead, marked}
-use Rattle.chain_lint.specs.Flow.{Value, StackWord, depth, found, is_same, is_pair, stands_in, joined_words, without, with_stack_word, words_above}
+use Rattle.chain_flow.specs.Flow.{depth, found, is_same, is_pair, stands_in, joined_words, without, with_stack_word, words_above}
+use Rattle.chain_flow.specs.declared.value.Value.{Value}
+use Rattle.chain_flow.specs.declared.stack_word.StackWord.{StackWord}
 use Rattle.chain_lint.proofs.Values.{Holds, same}
 use Rattle.chain_lint.proofs.Marking.{marked_stays, marked_here, alive_from, alive_at}
 

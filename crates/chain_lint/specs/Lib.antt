@@ -1,11 +1,6 @@
-pub mod Flow
-pub mod Transfer
-pub mod Rules
-pub mod Look
-pub mod Walk
+pub mod Code
 pub mod Bound
 pub mod Soundness
-pub mod Survey
 pub mod Tables
 pub mod Texts
 pub mod Pairs

@@ -17,10 +17,10 @@ use Rattle.chain_moves.specs.Moves.{move, servicing_machine}
 use Rattle.chain_moves.specs.Start.{begun}
 use Rattle.chain_moves.specs.declared.broken.Broken.{Broken}
 use Rattle.chain_moves.specs.declared.broken.Broken.TheVariants.{CsrTouched, RegisterLost, ReadsDispatch, WritesFrame}
-use Rattle.chain_lint.specs.Walk.{verdict}
+use Rattle.chain_flow.specs.Walk.{verdict}
 use Rattle.chain_lint.specs.Bound.{Use, bound}
-use Rattle.chain_lint.specs.declared.region.Region.{Region}
-use Rattle.chain_lint.specs.declared.verdict.Verdict.TheVariants.{Yes}
+use Rattle.chain_flow.specs.declared.region.Region.{Region}
+use Rattle.chain_flow.specs.declared.verdict.Verdict.TheVariants.{Yes}
 
 -- ---- the premises
 

@@ -5,12 +5,12 @@ use Rattle.hart_memory.specs.Bytes.{number_at}
 use Rattle.hart_memory.specs.Place.{is_in_rom}
 use Rattle.chain_moves.specs.Slot.{in_slot}
 use Rattle.chain_moves.specs.Bytes.{some_byte}
-use Rattle.chain_lint.specs.Walk.{verdict}
+use Rattle.chain_flow.specs.Walk.{verdict}
 use Rattle.chain_lint.specs.Bound.{Use, bound}
-use Rattle.chain_lint.specs.declared.region.Region.{Region}
+use Rattle.chain_flow.specs.declared.region.Region.{Region}
 use Rattle.chain_lint.specs.declared.pair.Pair.{Pair}
-use Rattle.chain_lint.specs.declared.verdict.Verdict.{Verdict}
-use Rattle.chain_lint.specs.declared.verdict.Verdict.TheVariants.{Yes, No}
+use Rattle.chain_flow.specs.declared.verdict.Verdict.{Verdict}
+use Rattle.chain_flow.specs.declared.verdict.Verdict.TheVariants.{Yes, No}
 use Rattle.chain_lint.specs.declared.table_bound.TableBound.{TableBound}
 use Rattle.chain_lint.specs.declared.table_bound.TableBound.TheVariants.{Bound, BadTable, Refused}
 

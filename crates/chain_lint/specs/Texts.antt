@@ -2,10 +2,10 @@
 use Rattle.std.specs.Prelude.{ℕ, List, ◌++◌, codes}
 use Rattle.hart_words.specs.Decimal.{decimal}
 use Rattle.hart_words.specs.Hexadecimal.{hex8}
-use Rattle.chain_lint.specs.declared.lint_why.LintWhy.{LintWhy}
-use Rattle.chain_lint.specs.declared.lint_why.LintWhy.TheVariants.{TooLong, CodeOutside, NotSpelled, System, Backwards, UnknownTarget, UnknownAddress, StackAccess, RegionAccess, StackPointer, RegisterChanged}
-use Rattle.chain_lint.specs.declared.verdict.Verdict.{Verdict}
-use Rattle.chain_lint.specs.declared.verdict.Verdict.TheVariants.{Yes, No}
+use Rattle.chain_flow.specs.declared.lint_why.LintWhy.{LintWhy}
+use Rattle.chain_flow.specs.declared.lint_why.LintWhy.TheVariants.{TooLong, CodeOutside, NotSpelled, System, Backwards, UnknownTarget, UnknownAddress, StackAccess, RegionAccess, StackPointer, RegisterChanged}
+use Rattle.chain_flow.specs.declared.verdict.Verdict.{Verdict}
+use Rattle.chain_flow.specs.declared.verdict.Verdict.TheVariants.{Yes, No}
 use Rattle.chain_lint.specs.declared.table_bound.TableBound.{TableBound}
 use Rattle.chain_lint.specs.declared.table_bound.TableBound.TheVariants.{Bound, BadTable, Refused}
 

@@ -1,12 +1,8 @@
 // What the checker's yes and the bound mean for runs of the servicing machine, for every device.
 ghost use Rattle.std.specs.Prelude.{◌≡◌, ◌↔◌, ℕ, List, Some};
-ghost use Rattle.chain_lint.specs.Walk.{verdict};
-ghost use Rattle.chain_lint.specs.Survey.{IsVerdict};
 ghost use Rattle.chain_lint.specs.Soundness.{YesIsSound, BoundIsSound, ListedIsSafe};
 ghost use Rattle.chain_lint.specs.Pairs.{SpellsPairs, pairs_of};
 ghost use Rattle.chain_lint.specs.declared.pair.Pair.{Pair};
-ghost use Rattle.chain_lint.specs.declared.region.Region.{Region};
-ghost use Rattle.chain_lint.specs.declared.verdict.Verdict.{Verdict};
 
 use device_model::Device;
 
@@ -27,14 +23,6 @@ pub fn the_bound_is_sound<D: Device>()
 /// Nor does a service break the convention in one of the four kinds then.
 pub fn what_is_listed_is_safe<D: Device>()
     ensures { ListedIsSafe D.means }
-{}
-
-/// The verdict in words: addresses are visited from the handler on, each the least that is reached and
-/// not yet visited; what is known at one is the join over the visits that go there. It is yes where all
-/// that is reached is visited, and else no by the first rule at the next address.
-pub fn a_verdict_is_so()
-    ensures is { (code : List ℕ) (region : Region) (handler : ℕ) → IsVerdict code region handler (verdict code handler region) }
-    ensures only { (code : List ℕ) (region : Region) (handler : ℕ) (answer : Verdict) → IsVerdict code region handler answer → verdict code handler region ≡ answer }
 {}
 
 /// Pairs are read of a word exactly where it spells them: each an input, a colon and a level, in decimal

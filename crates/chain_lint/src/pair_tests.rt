@@ -1,4 +1,5 @@
 use super::*;
+use chain_flow::{LintWhy, Verdict};
 use std::alloc::Global;
 use std::process::Abort;
 use std::test::Fail;

@@ -1,6 +1,6 @@
 // What the handlers in a table come to.
 
-use crate::lint_why::LintWhy;
+use chain_flow::LintWhy;
 
 /// How much stack the handlers in a table use together, or the first that has none to tell.
 #[derive(Clone, Copy, Debug, PartialEq, Eq, Drop)]

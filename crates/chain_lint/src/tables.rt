@@ -2,18 +2,15 @@
 ghost use Rattle.std.specs.Prelude.{◌≡◌, ◌≤◌, ◌+◌, [], IfOk};
 ghost use Rattle.std.specs.List.{All};
 ghost use Rattle.hart_memory.specs.declared.address_map.TheConstants.{RAM_BASE, BANK_LEN};
-ghost use Rattle.chain_lint.specs.Look.{image_rom};
+ghost use Rattle.chain_lint.specs.Code.{image_rom};
 ghost use Rattle.chain_lint.specs.Tables.{IsPair, IsWordAt, is_bad_word, table_bound};
 
 use crate::bound::stack_bound;
 use crate::code::memory_of;
 use crate::pair::Pair;
-use crate::places::meets_slot;
-use crate::region::Region;
 use crate::table_bound::TableBound;
 use crate::uses::Use;
-use crate::verdict::Verdict;
-use crate::walking::lint_code;
+use chain_flow::{Region, Verdict, lint_code, meets_slot};
 use hart_memory::laws::banks_are_whole;
 use hart_memory::{BANK_LEN, Banks, Image};
 use hart_words::{WantOfMemory, even};

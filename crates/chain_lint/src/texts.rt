@@ -2,9 +2,8 @@
 ghost use Rattle.std.specs.Prelude.{◌≡◌, ◌≤◌, length};
 ghost use Rattle.chain_lint.specs.Texts.{why_name, no_line, yes_line, bound_line, verdict_line, table_line};
 
-use crate::lint_why::LintWhy;
 use crate::table_bound::TableBound;
-use crate::verdict::Verdict;
+use chain_flow::{LintWhy, Verdict};
 use hart_words::Line;
 
 fn why_name(why: LintWhy) -> &'static str

@@ -5,10 +5,10 @@ use Rattle.std.proofs.lemmas.List.{get_or_default}
 use Rattle.std.proofs.lemmas.List.Elements.{All-push}
 use Rattle.hart_exec.specs.Effect.{even}
 use Rattle.chain_lint.specs.Bound.{Use, IsUse}
-use Rattle.chain_lint.specs.Walk.{verdict}
+use Rattle.chain_flow.specs.Walk.{verdict}
 use Rattle.chain_lint.specs.Tables.{word_place, IsWordAt, table_bound}
 use Rattle.chain_lint.specs.declared.pair.Pair.{Pair}
-use Rattle.chain_lint.specs.declared.verdict.Verdict.TheVariants.{Yes, No}
+use Rattle.chain_flow.specs.declared.verdict.Verdict.TheVariants.{Yes, No}
 use Rattle.chain_lint.specs.declared.table_bound.TableBound.TheVariants.{Bound, BadTable}
 use Rattle.chain_lint.proofs.Tabled.{bad_table, refused, accepted, all_taken}
 use Rattle.chain_lint.proofs.tables.bound_in.Goals as goal

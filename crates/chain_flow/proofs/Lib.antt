@@ -1,0 +1,13 @@
+pub mod Looks
+pub mod Joins
+pub mod Arrivals
+pub mod Loops
+pub mod Changes
+pub mod Codes
+pub mod Found
+pub mod Stepping
+pub mod Rising
+pub mod Targets
+pub mod Surveys
+pub mod Standing
+pub mod Depths

@@ -1,8 +1,0 @@
-use Rattle.chain_lint.proofs.Surveys.{is_so, only_so}
-use Rattle.chain_lint.proofs.laws.a_verdict_is_so.Goals as goal
-
-pub returns-clause-is : goal.returns-clause-is
-returns-clause-is c = is_so
-
-pub returns-clause-only : goal.returns-clause-only
-returns-clause-only c = only_so

@@ -1,7 +1,0 @@
-use Rattle.std.proofs.Common.{◌≡◌, ◌+◌, ◌-◌}
-use Rattle.chain_moves.specs.Bytes.{some_byte}
-use Rattle.chain_lint.specs.Rules.{in_region}
-use Rattle.chain_lint.proofs.places.meets.Given as goal
-
-abbrev pub invariant-loop-i : goal.invariant-loop-i
-invariant-loop-i l = some_byte (in_region l.region) (l.at + l.i) (l.width - l.i) ≡ some_byte (in_region l.region) l.at l.width
