@@ -8,7 +8,7 @@ use Rattle.hart_board.specs.declared.run_end.RunEnd.{RunEnd}
 use Rattle.hart_board.specs.declared.run_end.RunEnd.TheVariants.{Halted, BudgetSpent as run_spent, VectorFault as vector_fault, SinkFailed as run_sink}
 use Rattle.chain_core.specs.declared.chain_end.ChainEnd.{ChainEnd}
 use Rattle.chain_core.specs.declared.chain_end.ChainEnd.TheVariants.{Done as done, BudgetSpent as chain_spent, Broken as broken, SinkFailed as chain_sink}
-use Rattle.chain_lint.specs.declared.verdict.Verdict.{Verdict}
+use Rattle.chain_flow.specs.declared.verdict.Verdict.{Verdict}
 use Rattle.chain_lint.specs.declared.table_bound.TableBound.{TableBound}
 use Rattle.tool_frame.specs.Due.{Due, Outcome}
 use Rattle.tool_frame.specs.Plan.{Makes, reads}

@@ -1,7 +1,7 @@
 -- The statuses of the static checker's answers.
 use Rattle.std.proofs.Common.{◌≡◌, ◌⊎◌, refl, inl, inr}
-use Rattle.chain_lint.specs.declared.verdict.Verdict.{Verdict}
-use Rattle.chain_lint.specs.declared.verdict.Verdict.TheVariants.{Yes, No}
+use Rattle.chain_flow.specs.declared.verdict.Verdict.{Verdict}
+use Rattle.chain_flow.specs.declared.verdict.Verdict.TheVariants.{Yes, No}
 use Rattle.chain_lint.specs.declared.table_bound.TableBound.{TableBound}
 use Rattle.chain_lint.specs.declared.table_bound.TableBound.TheVariants.{Bound, BadTable, Refused}
 use Rattle.tool_frame.specs.declared.status.Status.{Status}

@@ -3,7 +3,7 @@ use Rattle.std.specs.Prelude.{ℕ, ◌%◌, ◌^◌, List, [], Option, codes, un
 use Rattle.clap.specs.Words.{App, Row, Text, first_of, one_of, new_app, with_rule}
 use Rattle.hart_words.specs.Bits.{with_low_bits_clear}
 use Rattle.hart_memory.specs.Image.{ImageView}
-use Rattle.chain_lint.specs.Look.{image_rom}
+use Rattle.chain_lint.specs.Code.{image_rom}
 use Rattle.chain_lint.specs.Tables.{table_bound}
 use Rattle.chain_lint.specs.Pairs.{pairs_of}
 use Rattle.chain_lint.specs.Texts.{table_line}

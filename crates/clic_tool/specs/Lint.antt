@@ -3,11 +3,11 @@ use Rattle.std.specs.Prelude.{ℕ, ◌%◌, ◌^◌, List, [], codes, unwrap_or}
 use Rattle.clap.specs.Words.{App, Row, Text, first_of, one_of, new_app, with_rule}
 use Rattle.hart_words.specs.Bits.{even}
 use Rattle.hart_memory.specs.Image.{ImageView}
-use Rattle.chain_lint.specs.Look.{image_rom}
-use Rattle.chain_lint.specs.Walk.{verdict}
+use Rattle.chain_lint.specs.Code.{image_rom}
+use Rattle.chain_flow.specs.Walk.{verdict}
 use Rattle.chain_lint.specs.Texts.{verdict_line}
-use Rattle.chain_lint.specs.declared.verdict.Verdict.{Verdict}
-use Rattle.chain_lint.specs.declared.verdict.Verdict.TheVariants.{Yes, No}
+use Rattle.chain_flow.specs.declared.verdict.Verdict.{Verdict}
+use Rattle.chain_flow.specs.declared.verdict.Verdict.TheVariants.{Yes, No}
 use Rattle.tool_frame.specs.Options.{text_rule, number_rule, number_in}
 use Rattle.tool_frame.specs.Due.{Due, at_once}
 use Rattle.tool_frame.specs.Plan.{Plan, Makes, reads}

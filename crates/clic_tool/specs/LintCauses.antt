@@ -2,9 +2,9 @@
 use Rattle.std.specs.Prelude.{◌≡◌, ◌⊎◌, ℕ, Option, Some}
 use Rattle.board_outside.specs.Shelf.{ShelfView}
 use Rattle.hart_memory.specs.Image.{ImageView}
-use Rattle.chain_lint.specs.declared.lint_why.LintWhy.{LintWhy}
-use Rattle.chain_lint.specs.declared.verdict.Verdict.{Verdict}
-use Rattle.chain_lint.specs.declared.verdict.Verdict.TheVariants.{Yes, No}
+use Rattle.chain_flow.specs.declared.lint_why.LintWhy.{LintWhy}
+use Rattle.chain_flow.specs.declared.verdict.Verdict.{Verdict}
+use Rattle.chain_flow.specs.declared.verdict.Verdict.TheVariants.{Yes, No}
 use Rattle.chain_lint.specs.declared.table_bound.TableBound.{TableBound}
 use Rattle.chain_lint.specs.declared.table_bound.TableBound.TheVariants.{Bound, BadTable, Refused}
 use Rattle.tool_frame.specs.Answers.{Passes}

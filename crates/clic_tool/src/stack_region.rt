@@ -3,7 +3,7 @@ ghost use Rattle.std.specs.Prelude.{◌≡◌, ◌≤◌, ◌+◌};
 ghost use Rattle.clic_tool.specs.Region.{edge_of, region_of};
 ghost use Rattle.hart_memory.specs.declared.address_map.TheConstants as map;
 
-use chain_lint::Region;
+use chain_flow::Region;
 use hart_memory::{BANK_LEN, RAM_BASE};
 
 // The nearest number from RAM's first address to the one behind RAM.
