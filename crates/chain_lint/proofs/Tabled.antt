@@ -1,6 +1,6 @@
 -- Words of a table, and the handlers that they name.
-use Rattle.std.proofs.Common.{◌≡◌, ℕ, ◌+◌, ◌≤◌, ◌<◌, true, false, List, [], ◌∷◌, ◌++◌, length, get_or, drop, Option, Some, None, sym, ap, ◌∙◌}
-use Rattle.std.proofs.lemmas.List.{drop_more, drop_all}
+use Rattle.std.proofs.Common.{◌≡◌, ℕ, ◌+◌, ◌*◌, ◌≤◌, ◌<◌, true, false, List, [], ◌∷◌, ◌++◌, length, get_or, drop, Option, Some, None, sym, ap, ◌∙◌, subst}
+use Rattle.std.proofs.lemmas.List.{drop_more, drop_all, get_or_default}
 use Rattle.std.proofs.lemmas.Bool.{or_parts, not-false, leb-true}
 use Rattle.hart_exec.specs.Effect.{even}
 use Rattle.hart_memory.specs.Memory.{Memory}
@@ -34,29 +34,43 @@ word_is m at w e l =
     let is : w ≡ number_at m.rom at 4 = cc in
     (e, is)
 
-module _ (code : List ℕ) (region : Region) (table : ℕ) (pairs : List Pair) (i : ℕ) (p : Pair) (l : i < length pairs) (here : p ≡ get_or pairs i p) (us : List Use) where
+-- the pair at a place of the list, whose word is what was read at this address
+module _ (code : List ℕ) (region : Region) (table : ℕ) (pairs : List Pair) (i input : ℕ) (d : Pair) (l : i < length pairs) (is_input : input ≡ (get_or pairs i d).input) (us : List Use) where
+  abbrev p : Pair
+  p = get_or pairs i d
+
+  place_is : table + 4 * input ≡ word_place table p
+  place_is = ap (λ n. table + 4 * n) is_input
+
   first : table_bound code region table (drop i pairs) us ≡ by_word (is_bad_word (word_place table p)) (word_place table p) (by_verdict (λ vs. table_bound code region table (drop (i + 1) pairs) vs) p.level us (verdict code (even (number_at code (word_place table p) 4)) region))
   unfolding table_bound
-  first = ap (λ (ps : List Pair). table_bound code region table ps us) (drop_more pairs i p l ∙ ap (λ (q : Pair). q ∷ drop (i + 1) pairs) (sym here))
+  first = ap (λ (ps : List Pair). table_bound code region table ps us) (drop_more pairs i p l ∙ ap (λ (q : Pair). q ∷ drop (i + 1) pairs) (sym (get_or_default pairs i d p l)))
 
-  pub bad_table : (o : Option ℕ) → IsWordAt code (word_place table p) o → o ≡ None → table_bound code region table (drop i pairs) us ≡ BadTable (word_place table p)
-  bad_table None h e = first ∙ ap (λ b. by_word b (word_place table p) (by_verdict (λ vs. table_bound code region table (drop (i + 1) pairs) vs) p.level us (verdict code (even (number_at code (word_place table p) 4)) region))) h
-  bad_table (Some w) h e = absurd cc
+  bad_by : (o : Option ℕ) → IsWordAt code (word_place table p) o → o ≡ None → table_bound code region table (drop i pairs) us ≡ BadTable (word_place table p)
+  bad_by None h e = first ∙ ap (λ b. by_word b (word_place table p) (by_verdict (λ vs. table_bound code region table (drop (i + 1) pairs) vs) p.level us (verdict code (even (number_at code (word_place table p) 4)) region))) h
+  bad_by (Some w) h e = absurd cc
 
-  module _ (w : ℕ) (v : Verdict) (is : v ≡ verdict code (even w) region) where
-    judged : (o : Option ℕ) → IsWordAt code (word_place table p) o → o ≡ Some w → table_bound code region table (drop i pairs) us ≡ by_verdict (λ vs. table_bound code region table (drop (i + 1) pairs) vs) p.level us v
-    judged None h e = absurd cc
-    judged (Some x) h e =
+  pub bad_table : (o : Option ℕ) → IsWordAt code (table + 4 * input) o → o ≡ None → BadTable (table + 4 * input) ≡ table_bound code region table (drop i pairs) us
+  bad_table o h e = ap BadTable place_is ∙ sym (bad_by o (subst (λ a. IsWordAt code a o) place_is h) e)
+
+  module _ (w : ℕ) (v : Verdict) (is : v ≡ verdict code (even w) region) (o : Option ℕ) (word : IsWordAt code (table + 4 * input) o) (some : o ≡ Some w) where
+    judged_by : (o : Option ℕ) → IsWordAt code (word_place table p) o → o ≡ Some w → by_verdict (λ vs. table_bound code region table (drop (i + 1) pairs) vs) p.level us v ≡ table_bound code region table (drop i pairs) us
+    judged_by None h e = absurd cc
+    judged_by (Some x) h e =
         let same : x ≡ w = cc in
-        first
+        sym
+        (first
         ∙ (ap (λ b. by_word b (word_place table p) (by_verdict (λ vs. table_bound code region table (drop (i + 1) pairs) vs) p.level us (verdict code (even (number_at code (word_place table p) 4)) region))) h.0
-        ∙ ap (λ (y : Verdict). by_verdict (λ vs. table_bound code region table (drop (i + 1) pairs) vs) p.level us y) (ap (λ n. verdict code (even n) region) (sym h.1 ∙ same) ∙ sym is))
+        ∙ ap (λ (y : Verdict). by_verdict (λ vs. table_bound code region table (drop (i + 1) pairs) vs) p.level us y) (ap (λ n. verdict code (even n) region) (sym h.1 ∙ same) ∙ sym is)))
 
-    pub refused : (o : Option ℕ) (why : LintWhy) (at : ℕ) → IsWordAt code (word_place table p) o → o ≡ Some w → v ≡ No why at → table_bound code region table (drop i pairs) us ≡ Refused why at
-    refused o why at h e q = judged o h e ∙ ap (λ (y : Verdict). by_verdict (λ vs. table_bound code region table (drop (i + 1) pairs) vs) p.level us y) q
+    judged : by_verdict (λ vs. table_bound code region table (drop (i + 1) pairs) vs) p.level us v ≡ table_bound code region table (drop i pairs) us
+    judged = judged_by o (subst (λ a. IsWordAt code a o) place_is word) some
 
-    pub accepted : (o : Option ℕ) (uses : ℕ) → IsWordAt code (word_place table p) o → o ≡ Some w → v ≡ Yes uses → table_bound code region table (drop i pairs) us ≡ table_bound code region table (drop (i + 1) pairs) (us ++ record { level = p.level; uses = uses } ∷ [])
-    accepted o uses h e q = judged o h e ∙ ap (λ (y : Verdict). by_verdict (λ vs. table_bound code region table (drop (i + 1) pairs) vs) p.level us y) q
+    pub refused : (why : LintWhy) (at : ℕ) → v ≡ No why at → Refused why at ≡ table_bound code region table (drop i pairs) us
+    refused why at q = sym (ap (λ (y : Verdict). by_verdict (λ vs. table_bound code region table (drop (i + 1) pairs) vs) p.level us y) q) ∙ judged
+
+    pub accepted : (uses : ℕ) → v ≡ Yes uses → table_bound code region table (drop (i + 1) pairs) (us ++ record { level = p.level; uses = uses } ∷ []) ≡ table_bound code region table (drop i pairs) us
+    accepted uses q = sym (ap (λ (y : Verdict). by_verdict (λ vs. table_bound code region table (drop (i + 1) pairs) vs) p.level us y) q) ∙ judged
 
 pub all_taken : (code : List ℕ) (region : Region) (table : ℕ) (pairs : List Pair) (i : ℕ) (us : List Use) → length pairs ≤ i → table_bound code region table (drop i pairs) us ≡ Bound (bound us)
 unfolding table_bound
