@@ -5,6 +5,7 @@ ghost use Rattle.chain_moves.specs.Bytes.{some_byte};
 ghost use Rattle.chain_flow.specs.Rules.{in_region};
 
 use crate::region::Region;
+use chain_moves::slot::{BASE, SLOT_END};
 
 // Whether an address is in the region.
 fn is_in(region: &Region, at: u64) -> bool
@@ -30,8 +31,8 @@ pub fn meets_slot(at: u32, width: u32) -> bool
     ensures { result ≡ some_byte in_slot at width }
 {
     let slot = Region {
-        low: 0x40,
-        high: 0xC0,
+        low: BASE,
+        high: SLOT_END,
     };
     meets(&slot, at, width)
 }

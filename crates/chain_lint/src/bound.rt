@@ -5,9 +5,7 @@ ghost use Rattle.chain_moves.specs.Slot.{frame_size};
 ghost use Rattle.chain_lint.specs.Bound.{IsUse, level_cost as level_cost_of, bound};
 
 use crate::uses::Use;
-
-// The bytes of a frame.
-const FRAME_SIZE: u32 = 32;
+use chain_moves::slot::FRAME_SIZE;
 
 // A frame with the greatest uses at a level, or 0 where the list has no such level.
 #[tactic(auto, unfolding(crate::specs::Bound::level_cost), using(crate::proofs::Loops::cost_small))]
