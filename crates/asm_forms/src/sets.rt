@@ -2,25 +2,25 @@
 ghost use Rattle.std.specs.Prelude.{◌≡◌};
 ghost use Rattle.asm_forms.specs.Fields.{set_of};
 
-use asm_text::{Named, number_in};
+use asm_text::{Named, number_in, row};
 
 // By the number of letters.
 const SETS: [Named; 15] = [
-    Named("i", 8),
-    Named("o", 4),
-    Named("r", 2),
-    Named("w", 1),
-    Named("io", 12),
-    Named("ir", 10),
-    Named("iw", 9),
-    Named("or", 6),
-    Named("ow", 5),
-    Named("rw", 3),
-    Named("ior", 14),
-    Named("iow", 13),
-    Named("irw", 11),
-    Named("orw", 7),
-    Named("iorw", 15),
+    row!("i", 8),
+    row!("o", 4),
+    row!("r", 2),
+    row!("w", 1),
+    row!("io", 12),
+    row!("ir", 10),
+    row!("iw", 9),
+    row!("or", 6),
+    row!("ow", 5),
+    row!("rw", 3),
+    row!("ior", 14),
+    row!("iow", 13),
+    row!("irw", 11),
+    row!("orw", 7),
+    row!("iorw", 15),
 ];
 
 /// The set that letters spell.

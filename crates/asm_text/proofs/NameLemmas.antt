@@ -29,7 +29,7 @@ left true x y e = cc
 
 -- a table from one of its rows on
 pub unrolled : (table : List Named) (i : ℕ) (t : List ℕ) (d : Named) → i < length table
-    → number_in (rows_of (drop i table)) t ≡ cond (is_same_text (get_or table i d).0.now t) (Some (get_or table i d).1) (number_in (rows_of (drop (i + 1) table)) t)
+    → number_in (rows_of (drop i table)) t ≡ cond (is_same_text (get_or table i d).name.now t) (Some (get_or table i d).number) (number_in (rows_of (drop (i + 1) table)) t)
 unrolled table i t d h =
     let one : suc i ≡ i + 1 = omega arith in
     ap (λ x. number_in (rows_of x) t) (drop-cons table i d h ∙ ap (λ k. get_or table i d ∷ drop k table) one)

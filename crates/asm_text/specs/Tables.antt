@@ -4,7 +4,7 @@ use Rattle.asm_text.specs.Names.{Names}
 use Rattle.asm_text.specs.declared.named.Named.{Named}
 
 abbrev pub row_of : Named → List ℕ × ℕ
-row_of named = (named.0.now, named.1)
+row_of named = (named.name.now, named.number)
 
 abbrev pub rows_of : List Named → Names
 rows_of table = map row_of table

@@ -4,27 +4,28 @@ ghost use Rattle.std.specs.Option.{option_map};
 ghost use Rattle.asm_text.specs.Names.{csr_of, csr_name};
 
 use crate::named::{Named, name_in, number_in};
+use crate::row;
 
 const CSRS: [Named; 19] = [
-    Named("mstatus", 0x300),
-    Named("misa", 0x301),
-    Named("mie", 0x304),
-    Named("mtvec", 0x305),
-    Named("mtvt", 0x307),
-    Named("mscratch", 0x340),
-    Named("mepc", 0x341),
-    Named("mcause", 0x342),
-    Named("mtval", 0x343),
-    Named("mip", 0x344),
-    Named("mnxti", 0x345),
-    Named("mintthresh", 0x347),
-    Named("mscratchcsw", 0x348),
-    Named("mscratchcswl", 0x349),
-    Named("mvendorid", 0xF11),
-    Named("marchid", 0xF12),
-    Named("mimpid", 0xF13),
-    Named("mhartid", 0xF14),
-    Named("mintstatus", 0xFB1),
+    row!("mstatus", 0x300),
+    row!("misa", 0x301),
+    row!("mie", 0x304),
+    row!("mtvec", 0x305),
+    row!("mtvt", 0x307),
+    row!("mscratch", 0x340),
+    row!("mepc", 0x341),
+    row!("mcause", 0x342),
+    row!("mtval", 0x343),
+    row!("mip", 0x344),
+    row!("mnxti", 0x345),
+    row!("mintthresh", 0x347),
+    row!("mscratchcsw", 0x348),
+    row!("mscratchcswl", 0x349),
+    row!("mvendorid", 0xF11),
+    row!("marchid", 0xF12),
+    row!("mimpid", 0xF13),
+    row!("mhartid", 0xF14),
+    row!("mintstatus", 0xFB1),
 ];
 
 /// The number of a control and status register by its name.

@@ -6,15 +6,29 @@ ghost use Rattle.asm_text.specs.Tables.{rows_of};
 
 /// A name with its number.
 #[derive(Clone, Copy, Drop)]
-pub struct Named(pub &'static str, pub u16);
+pub struct Named {
+    pub name: &'static str,
+    pub number: u16,
+}
+
+/// A row of a table of names.
+#[macro_export]
+macro_rules! row {
+    ($name:literal, $number:literal) => {
+        $crate::Named {
+            name: $name,
+            number: $number,
+        }
+    };
+}
 
 /// The number of a name of the table.
 pub fn number_in(table: &[Named], name: &[u8]) -> Option<u16>
     ensures { result ≡ number_in (rows_of table.now) name.now }
 {
     for row in table {
-        if row.0.as_bytes() == name {
-            return Some(row.1);
+        if row.name.as_bytes() == name {
+            return Some(row.number);
         }
     }
     None
@@ -25,8 +39,8 @@ pub fn name_in(table: &[Named], number: u16) -> Option<&'static str>
     ensures { option_map (λ name. name.now) result ≡ name_in (rows_of table.now) number }
 {
     for row in table {
-        if row.1 == number {
-            return Some(row.0);
+        if row.number == number {
+            return Some(row.name);
         }
     }
     None
