@@ -8,13 +8,13 @@ use Rattle.asm_text.specs.declared.token_kind.TokenKind.TheVariants.{Name, Numbe
 use Rattle.asm_text.specs.declared.token_kind.TokenKind.{TokenKind}
 use Rattle.std.specs.Prelude.{slice_range, ℤ}
 use Rattle.asm_text.specs.Words.{word_by}
-use Rattle.asm_forms.specs.Fields.{label_in, is_marked}
+use Rattle.asm_fields.specs.Fields.{label_in, is_marked}
 use Rattle.asm_forms.specs.Statements.{chosen, read_form, task_or, label_of, statement_of, some_task, task_named}
 use Rattle.asm_forms.specs.Seen.{row_of, form_rows}
 use Rattle.asm_forms.specs.declared.form.Form.{Form}
 use Rattle.asm_forms.specs.declared.asm_why.AsmWhy.{AsmWhy}
 use Rattle.asm_forms.specs.declared.asm_why.AsmWhy.TheVariants.{BadOperands, UnknownMnemonic}
-use Rattle.asm_forms.proofs.Items.{drop_at}
+use Rattle.asm_fields.proofs.Items.{drop_at}
 
 pub chosen_on : (table : List Form) (i : ℕ) (why : AsmWhy) (t : List ℕ) (ws : List Word) (d : Form) → i < length table
     → chosen (form_rows (drop i table)) why t ws

@@ -6,7 +6,7 @@ use Rattle.asm_text.specs.Names.{is_same_text}
 use Rattle.asm_text.specs.Words.{Word, NameWord, NumberWord, MarkWord}
 use Rattle.asm_text.specs.Lexing.{lexed}
 use Rattle.asm_text.specs.declared.lex_fault.LexFault.{LexFault}
-use Rattle.asm_forms.specs.Operands.{Operands}
+use Rattle.asm_fields.specs.Operands.{Operands}
 use Rattle.asm_forms.specs.Operations.{made, operation_fits, extent_of, taken, bytes_of, first_value}
 use Rattle.asm_forms.specs.Forms.{Row, forms}
 use Rattle.asm_forms.specs.Statements.{Task, Fits, task_by, read_form, task_or, chosen, task_named, some_task, statement_of, Reading, reading, reading_of, reading_by}

@@ -1,6 +1,3 @@
-pub mod Integers
-pub mod Names
-pub mod Items
 pub mod Chosen
 pub mod Zeros
 pub mod Fitting

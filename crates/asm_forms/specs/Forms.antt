@@ -11,9 +11,9 @@ use Rattle.rv_encoding.specs.declared.operations.ImmOp.TheVariants.{Addi, Slti, 
 use Rattle.rv_encoding.specs.declared.operations.RegOp.TheVariants.{Add, Sub, Sll, Slt, Sltu, Xor, Srl, Sra, Or, And, Mul, Mulh, Mulhsu, Mulhu, Div, Divu, Rem, Remu}
 use Rattle.rv_encoding.specs.declared.operations.CsrOp.TheVariants.{Csrrw, Csrrs, Csrrc, Csrrwi, Csrrsi, Csrrci}
 use Rattle.rvc_encoding.specs.declared.row.CRow.TheVariants.{Addi4spn as RowAddi4spn, Lw as RowLw, Sw as RowSw, Nop as RowNop, Addi as RowAddi, Jal as RowJal, Li as RowLi, Addi16sp as RowAddi16sp, Lui as RowLui, Srli as RowSrli, Srai as RowSrai, Andi as RowAndi, Sub as RowSub, Xor as RowXor, Or as RowOr, And as RowAnd, J as RowJ, Beqz as RowBeqz, Bnez as RowBnez, Slli as RowSlli, Lwsp as RowLwsp, Jr as RowJr, Mv as RowMv, Ebreak as RowEbreak, Jalr as RowJalr, Add as RowAdd, Swsp as RowSwsp}
-use Rattle.asm_forms.specs.declared.field.Field.TheVariants.{Rd, Rs1, Rs2, Csr as CsrField, Source, Pred, Succ, Signed, Below, Digits, Upper, Amount, Word as AnyWord, Label, Address, Target}
-use Rattle.asm_forms.specs.declared.item.Item.{Item}
-use Rattle.asm_forms.specs.declared.item.Item.TheVariants.{Operand, Mark}
+use Rattle.asm_fields.specs.declared.field.Field.TheVariants.{Rd, Rs1, Rs2, Csr as CsrField, Source, Pred, Succ, Signed, Below, Digits, Upper, Amount, Word as AnyWord, Label, Address, Target}
+use Rattle.asm_fields.specs.declared.item.Item.{Item}
+use Rattle.asm_fields.specs.declared.item.Item.TheVariants.{Operand, Mark}
 use Rattle.asm_forms.specs.declared.kind.Kind.{Kind}
 use Rattle.asm_forms.specs.declared.kind.Kind.TheVariants.{Org, Entry, Byte, Half, Word, Zero, Lui, Auipc, Jal, Jalr, Branch, Load, Store, Imm, Reg, Fence, Csr, Fixed, Short, Pair}
 

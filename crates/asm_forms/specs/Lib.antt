@@ -1,5 +1,3 @@
-pub mod Operands
-pub mod Fields
 pub mod Forms
 pub mod Operations
 pub mod Statements

@@ -10,7 +10,7 @@ use Rattle.rvc_encoding.specs.Fits.{fits_row}
 use Rattle.rvc_encoding.specs.Halves.{half_of}
 use Rattle.rv_encoding.specs.declared.instruction.Ins.TheVariants.{Lui as LuiIns, Auipc as AuipcIns, Jal as JalIns, Jalr as JalrIns, Branch as BranchIns, Load as LoadIns, Store as StoreIns, Imm as ImmIns, Reg as RegIns, Fence as FenceIns, Csr as CsrIns}
 use Rattle.rv_encoding.specs.declared.operations.ImmOp.TheVariants.{Addi}
-use Rattle.asm_forms.specs.Operands.{Operands, Number, Given, Absolute, Near, NearLabel}
+use Rattle.asm_fields.specs.Operands.{Operands, Number, Given, Absolute, Near, NearLabel}
 use Rattle.asm_forms.specs.declared.kind.Kind.{Kind}
 use Rattle.asm_forms.specs.declared.kind.Kind.TheVariants.{Org, Entry, Byte, Half, Word, Zero, Lui, Auipc, Jal, Jalr, Branch, Load, Store, Imm, Reg, Fence, Csr, Fixed, Short, Pair}
 use Rattle.asm_forms.specs.declared.operation.Operation.{Operation}

@@ -1,4 +1,4 @@
--- The code's operands, as the definitions see them.
+-- What the code reads of a line, as the definitions see it.
 use Rattle.std.specs.Prelude.{List, map, Option, Some, None, option_map}
 use Rattle.std.specs.declared.result.Result.{Result}
 use Rattle.std.specs.declared.result.Result.TheVariants.{Ok, Err}
@@ -8,27 +8,7 @@ use Rattle.asm_forms.specs.declared.task.Task.{Task as CodeTask}
 use Rattle.asm_forms.specs.declared.read.Read.{Read as CodeRead}
 use Rattle.asm_forms.specs.Forms.{Row}
 use Rattle.asm_forms.specs.Statements.{Task, Reading}
-use Rattle.asm_forms.specs.declared.number.Number.{Number as CodeNumber}
-use Rattle.asm_forms.specs.declared.number.Number.TheVariants.{Given as CodeGiven, Absolute as CodeAbsolute, Near as CodeNear, NearLabel as CodeNearLabel}
-use Rattle.asm_forms.specs.declared.operands.Operands.{Operands as CodeOperands}
-use Rattle.asm_forms.specs.Operands.{Operands, Number, Given, Absolute, Near, NearLabel}
-
-abbrev pub seen_number : CodeNumber → Number
-seen_number (CodeGiven v) = Given v
-seen_number (CodeAbsolute t) = Absolute t.now
-seen_number (CodeNear a) = Near a
-seen_number (CodeNearLabel t) = NearLabel t.now
-
-abbrev pub seen : CodeOperands → Operands
-seen o = record { rd = o.rd; rs1 = o.rs1; rs2 = o.rs2; csr = o.csr; amount = o.amount; number = seen_number o.number }
-
-abbrev pub seen_number_option : Option CodeNumber → Option Number
-seen_number_option None = None
-seen_number_option (Some n) = Some (seen_number n)
-
-abbrev pub seen_option : Option CodeOperands → Option Operands
-seen_option None = None
-seen_option (Some o) = Some (seen o)
+use Rattle.asm_fields.specs.Seen.{seen}
 
 abbrev pub seen_task : CodeTask → Task
 seen_task k = record { kind = k.kind; operands = seen k.operands }

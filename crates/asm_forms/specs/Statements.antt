@@ -7,8 +7,8 @@ use Rattle.asm_text.specs.Words.{Word, NameWord, NumberWord, MarkWord}
 use Rattle.asm_text.specs.Lexing.{lexed, words_of}
 use Rattle.asm_text.specs.declared.lex_fault.LexFault.{LexFault}
 use Rattle.asm_text.specs.declared.token_kind.TokenKind.TheVariants.{Colon}
-use Rattle.asm_forms.specs.Operands.{Operands, no_operands}
-use Rattle.asm_forms.specs.Fields.{label_in, is_marked, read_items}
+use Rattle.asm_fields.specs.Operands.{Operands, no_operands}
+use Rattle.asm_fields.specs.Fields.{label_in, is_marked, read_items}
 use Rattle.asm_forms.specs.Forms.{Row, forms}
 use Rattle.asm_forms.specs.Operations.{made, operation_fits, first_value}
 use Rattle.asm_forms.specs.declared.kind.Kind.{Kind}

@@ -1,6 +1,6 @@
 // A row of the table of forms.
-use crate::item::Item;
 use crate::kind::Kind;
+use asm_fields::Item;
 
 /// A name, the operands that follow it, and what the line does. What no operand gives is 0.
 #[derive(Clone, Copy, Drop)]

@@ -3,10 +3,9 @@ ghost use Rattle.std.specs.Prelude.{◌≡◌};
 ghost use Rattle.asm_forms.specs.Forms.{forms};
 ghost use Rattle.asm_forms.specs.Seen.{form_rows};
 
-use crate::field::Field;
 use crate::form::Form;
-use crate::item::Item;
 use crate::kind::Kind;
+use asm_fields::{Field, Item};
 use asm_text::TokenKind;
 use rv_encoding::{BranchOp, CsrOp, ImmOp, Ins, LoadOp, RegOp, StoreOp};
 use rvc_encoding::CRow;

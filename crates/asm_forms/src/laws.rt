@@ -1,6 +1,6 @@
 // What holds of every line.
 ghost use Rattle.std.specs.Prelude.{◌≡◌, ℕ, List, length, Some, Ok};
-ghost use Rattle.asm_forms.specs.Operands.{Operands};
+ghost use Rattle.asm_fields.specs.Operands.{Operands};
 ghost use Rattle.asm_forms.specs.Operations.{made, extent_of, taken, bytes_of};
 ghost use Rattle.asm_forms.specs.Statements.{Task, Fits, Reading, reading};
 

@@ -1,13 +1,12 @@
 // From operands to operations.
 ghost use Rattle.std.specs.Prelude.{◌≡◌};
 ghost use Rattle.asm_forms.specs.Operations.{made, operation_fits, extent_of, first_value, upper_part, lower_part};
-ghost use Rattle.asm_forms.specs.Seen.{seen, seen_number};
+ghost use Rattle.asm_fields.specs.Seen.{seen, seen_number};
 
 use crate::extent::Extent;
 use crate::kind::Kind;
-use crate::number::Number;
-use crate::operands::Operands;
 use crate::operation::Operation;
+use asm_fields::{Number, Operands};
 use hart_words::sign;
 use rv_encoding::{BranchOp, CsrOp, ImmOp, Ins, fits};
 use rvc_encoding::{CRow, Cins, fits16};

@@ -6,14 +6,12 @@ ghost use Rattle.asm_forms.specs.Statements.{chosen, read_form, task_named, stat
 ghost use Rattle.asm_forms.specs.Seen.{row_of, form_rows, seen_task_option, seen_chosen, seen_statement, seen_reading};
 
 use crate::asm_why::AsmWhy;
-use crate::fields::{is_marked, read_items};
 use crate::form::Form;
 use crate::forms::FORMS;
 use crate::making::{first_value, is_fit, operation_of};
-use crate::operands::without_operands;
 use crate::read::Read;
-use crate::reading::label_in;
 use crate::task::Task;
+use asm_fields::{is_marked, label_in, read_items, without_operands};
 use asm_text::{TokenKind, Tokens, lex_line};
 
 // A line of this form, where the tokens from this one on are its operands.

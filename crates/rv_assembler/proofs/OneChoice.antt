@@ -7,7 +7,7 @@ use Rattle.std.proofs.lemmas.Option.{slice_get_within, get_or_from_slice_get}
 use Rattle.std.proofs.lemmas.Grind.{get_or_default_zero}
 use Rattle.std.proofs.lemmas.Bool.Decides.{nat_tests}
 use Rattle.hart_memory.specs.Image.{SegmentView, AreApart}
-use Rattle.asm_forms.specs.Operands.{Operands}
+use Rattle.asm_fields.specs.Operands.{Operands}
 use Rattle.asm_forms.specs.Operations.{made, extent_of, taken, bytes_of}
 use Rattle.asm_forms.specs.Statements.{Task, reading}
 use Rattle.asm_forms.specs.declared.kind.Kind.{Kind}

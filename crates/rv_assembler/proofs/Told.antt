@@ -6,7 +6,7 @@ use Rattle.std.proofs.lemmas.Bool.Decides.{nat_tests}
 use lib.Pointwise.{pointwise}
 use Rattle.std.proofs.lemmas.List.Quantifiers.{all_pairs_push}
 use Rattle.hart_memory.specs.Image.{AreSound}
-use Rattle.asm_forms.specs.Operands.{Operands}
+use Rattle.asm_fields.specs.Operands.{Operands}
 use Rattle.asm_forms.specs.Operations.{made, operation_fits, extent_of, bytes_of}
 use Rattle.asm_forms.specs.Statements.{Task, Reading, reading}
 use Rattle.rv_assembler.specs.Symbols.{Symbol, address_of, defined_by, with_label}

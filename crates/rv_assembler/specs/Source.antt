@@ -3,7 +3,7 @@ use Rattle.std.specs.Prelude.{ℕ, ◌+◌, ◌-◌, ◌%◌, ◌^◌, nat_lt, c
 use Rattle.std.specs.declared.result.Result.{Result}
 use Rattle.std.specs.declared.result.Result.TheVariants.{Ok, Err}
 use Rattle.hart_memory.specs.Image.{SegmentView, ImageView}
-use Rattle.asm_forms.specs.Operands.{Number, Given, Absolute, Near, NearLabel}
+use Rattle.asm_fields.specs.Operands.{Number, Given, Absolute, Near, NearLabel}
 use Rattle.asm_forms.specs.Operations.{made, operation_fits, extent_of, bytes_of}
 use Rattle.asm_forms.specs.Statements.{Task, Reading, reading}
 use Rattle.rv_assembler.specs.Symbols.{Symbol, address_of, with_label}

@@ -2,13 +2,15 @@
 ghost use Rattle.std.specs.Prelude.{◌≡◌};
 ghost use Rattle.rv_assembler.specs.Symbols.{address_of};
 ghost use Rattle.rv_assembler.specs.Source.{nothing_built, resolved, moved, entry_by, second_task, second_line, task_of, distance, known, known_near};
-ghost use Rattle.asm_forms.specs.Seen.{seen_number, seen_task, seen_reading, seen_task_option};
+ghost use Rattle.asm_fields.specs.Seen.{seen_number};
+ghost use Rattle.asm_forms.specs.Seen.{seen_task, seen_reading, seen_task_option};
 ghost use Rattle.rv_assembler.specs.Stops.{Becomes};
 
 use crate::stop::Stop;
 use crate::symbols::Symbols;
+use asm_fields::Number;
 use asm_forms::{
-    AsmWhy, Extent, Number, Operation, Read, Task, extent_of, is_fit, operation_of, push_operation,
+    AsmWhy, Extent, Operation, Read, Task, extent_of, is_fit, operation_of, push_operation,
     read_line,
 };
 use std::alloc::Global;

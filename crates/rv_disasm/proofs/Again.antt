@@ -12,12 +12,12 @@ use Rattle.asm_text.specs.Pieces.{NamePiece, HexPiece, words_in, is_name, is_mar
 use Rattle.asm_text.specs.declared.token_kind.TokenKind.{TokenKind}
 use Rattle.asm_text.specs.declared.token_kind.TokenKind.TheVariants.{Name, Number, Comma, Colon, Open, Close}
 use Rattle.asm_text.proofs.NameLaws.{register_again, csr_again, is_number, meant}
-use Rattle.asm_forms.specs.Operands.{Operands, Given, Near}
-use Rattle.asm_forms.specs.Fields.{set_of, signed_word, with_rd, with_rs1, with_rs2, with_csr, with_amount, with_number, as_given, as_upper, as_near, read_field, read_items, is_marked, set_in}
-use Rattle.asm_forms.specs.declared.field.Field.{Field}
-use Rattle.asm_forms.specs.declared.field.Field.TheVariants.{Rd, Rs1, Rs2, Csr, Source, Pred, Succ, Signed, Below, Digits, Upper, Amount, Word as AnyWord, Label, Address, Target}
-use Rattle.asm_forms.specs.declared.item.Item.{Item}
-use Rattle.asm_forms.specs.declared.item.Item.TheVariants.{Operand, Mark}
+use Rattle.asm_fields.specs.Operands.{Operands, Given, Near}
+use Rattle.asm_fields.specs.Fields.{set_of, signed_word, with_rd, with_rs1, with_rs2, with_csr, with_amount, with_number, as_given, as_upper, as_near, read_field, read_items, is_marked, set_in}
+use Rattle.asm_fields.specs.declared.field.Field.{Field}
+use Rattle.asm_fields.specs.declared.field.Field.TheVariants.{Rd, Rs1, Rs2, Csr, Source, Pred, Succ, Signed, Below, Digits, Upper, Amount, Word as AnyWord, Label, Address, Target}
+use Rattle.asm_fields.specs.declared.item.Item.{Item}
+use Rattle.asm_fields.specs.declared.item.Item.TheVariants.{Operand, Mark}
 use Rattle.rv_disasm.specs.Printing.{letters, set_piece, csr_by, field_piece, items_pieces}
 use Rattle.rv_disasm.specs.Fitting.{is_word, is_near_zero, field_fits, starts_with_mark, items_fit}
 use Rattle.rv_disasm.specs.declared.values.Values.{Values}

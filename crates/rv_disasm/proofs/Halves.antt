@@ -13,7 +13,7 @@ use Rattle.rvc_encoding.specs.declared.row.CRow.TheVariants.{Addi4spn, Lw, Sw, N
 use Rattle.asm_forms.specs.Operations.{made, operation_fits, extent_of}
 use Rattle.rv_assembler.specs.Source.{resolved}
 use Rattle.asm_forms.specs.Forms.{stack_sum as stack_sum_items, short_load, short_store, nothing, short_signed, rd_short_signed, target, stack_change as stack_change_items, upper as upper_items, short_shift, rd_rs1, rd_target, stack_load as stack_load_items, rd as rd_items, stack_store as stack_store_items}
-use Rattle.asm_forms.specs.declared.item.Item.{Item}
+use Rattle.asm_fields.specs.declared.item.Item.{Item}
 use Rattle.asm_forms.specs.declared.kind.Kind.TheVariants.{Short as ShortKind}
 use Rattle.asm_forms.specs.declared.operation.Operation.TheVariants.{Compressed}
 use Rattle.asm_forms.specs.declared.extent.Extent.TheVariants.{Takes}

@@ -22,10 +22,10 @@ use Rattle.hart_memory.proofs.ImageLemmas.{byte_count-le}
 use Rattle.rv_assembler.specs.Source.{assembled}
 use Rattle.rv_assembler.specs.declared.assembling.TheConstants.{MAX_SOURCE}
 use Rattle.rv_assembler.specs.declared.stretch.Stretch.{Stretch}
-use Rattle.asm_forms.specs.declared.field.Field.{Field}
-use Rattle.asm_forms.specs.declared.field.Field.TheVariants.{Rd, Rs1, Rs2, Csr, Source, Pred, Succ, Signed, Below, Digits, Upper, Amount, Word as AnyWord, Label, Address, Target}
-use Rattle.asm_forms.specs.declared.item.Item.{Item}
-use Rattle.asm_forms.specs.declared.item.Item.TheVariants.{Operand, Mark}
+use Rattle.asm_fields.specs.declared.field.Field.{Field}
+use Rattle.asm_fields.specs.declared.field.Field.TheVariants.{Rd, Rs1, Rs2, Csr, Source, Pred, Succ, Signed, Below, Digits, Upper, Amount, Word as AnyWord, Label, Address, Target}
+use Rattle.asm_fields.specs.declared.item.Item.{Item}
+use Rattle.asm_fields.specs.declared.item.Item.TheVariants.{Operand, Mark}
 use Rattle.rv_disasm.specs.Shown.{row_of, values_of}
 use Rattle.rv_disasm.specs.Printing.{letters, set_piece, csr_by, field_piece, items_pieces, operands_pieces, row_pieces, line_pieces}
 use Rattle.rv_disasm.specs.Fitting.{is_word, is_near_zero, field_fits, starts_with_mark, items_fit, statement_fits}

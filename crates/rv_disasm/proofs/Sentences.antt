@@ -9,14 +9,14 @@ use Rattle.asm_text.specs.Words.{Word, NameWord}
 use Rattle.asm_text.specs.Lexing.{Spoken}
 use Rattle.asm_text.specs.Pieces.{NamePiece, printed, words_in, is_name, are_apart, AreReadable}
 use Rattle.asm_text.proofs.Rereading.{relexed}
-use Rattle.asm_forms.specs.Operands.{no_operands}
+use Rattle.asm_fields.specs.Operands.{no_operands}
 use Rattle.asm_forms.specs.Operations.{made, operation_fits, first_value}
-use Rattle.asm_forms.specs.Fields.{label_in}
+use Rattle.asm_fields.specs.Fields.{label_in}
 use Rattle.asm_forms.specs.Forms.{Row}
 use Rattle.asm_forms.specs.Statements.{Task, task_by, task_or, read_form, task_named, some_task, statement_of, label_of, after_label, Reading, reading_of, reading_by, reading}
 use Rattle.asm_forms.specs.declared.asm_why.AsmWhy.{AsmWhy}
-use Rattle.asm_forms.specs.declared.item.Item.{Item}
-use Rattle.asm_forms.specs.declared.item.Item.TheVariants.{Operand, Mark}
+use Rattle.asm_fields.specs.declared.item.Item.{Item}
+use Rattle.asm_fields.specs.declared.item.Item.TheVariants.{Operand, Mark}
 use Rattle.asm_forms.specs.declared.kind.Kind.{Kind}
 use Rattle.asm_forms.specs.declared.operation.Operation.{Operation}
 use Rattle.asm_forms.specs.declared.operation.Operation.TheVariants.{Org as OrgOperation, Entry as EntryOperation, PutsByte, PutsHalf, PutsWord, Long as LongOperation, Compressed}

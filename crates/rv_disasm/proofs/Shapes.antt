@@ -13,12 +13,12 @@ use Rattle.rv_encoding.specs.declared.operations.StoreOp.{StoreOp}
 use Rattle.rv_encoding.specs.declared.operations.ImmOp.{ImmOp}
 use Rattle.rv_encoding.specs.declared.operations.RegOp.{RegOp}
 use Rattle.rv_encoding.specs.declared.operations.CsrOp.{CsrOp}
-use Rattle.asm_forms.specs.Operands.{Operands, no_operands}
+use Rattle.asm_fields.specs.Operands.{Operands, no_operands}
 use Rattle.asm_forms.specs.Operations.{made, operation_fits, extent_of, first_value}
 use Rattle.rv_assembler.specs.Source.{resolved, distance}
 use Rattle.rv_assembler.specs.Symbols.{Symbol}
 use Rattle.asm_forms.specs.Forms.{upper, rd_target, rd_memory, branch, rs2_memory, rd_rs1_signed, shift, rd_rs1_rs2, sets, rd_csr_rs1, rd_csr_source, nothing, address, amount, half_word, byte}
-use Rattle.asm_forms.specs.declared.item.Item.{Item}
+use Rattle.asm_fields.specs.declared.item.Item.{Item}
 use Rattle.asm_forms.specs.declared.kind.Kind.{Kind}
 use Rattle.asm_forms.specs.declared.kind.Kind.TheVariants.{Org as OrgKind, Entry as EntryKind, Byte as ByteKind, Half as HalfKind, Word as WordKind, Lui as LuiKind, Auipc as AuipcKind, Jal as JalKind, Jalr as JalrKind, Branch as BranchKind, Load as LoadKind, Store as StoreKind, Imm as ImmKind, Reg as RegKind, Fence as FenceKind, Csr as CsrKind, Fixed as FixedKind}
 use Rattle.asm_forms.specs.declared.operation.Operation.{Operation}

@@ -3,10 +3,10 @@ use Rattle.std.specs.Prelude.{ℕ, ◌+◌, ◌%◌, ◌^◌, Bool, true, false,
 use Rattle.asm_text.specs.Pieces.{is_mark}
 use Rattle.rv_encoding.specs.Fits.{can_be_spelled}
 use Rattle.rvc_encoding.specs.Fits.{fits_row}
-use Rattle.asm_forms.specs.declared.field.Field.{Field}
-use Rattle.asm_forms.specs.declared.field.Field.TheVariants.{Rd, Rs1, Rs2, Csr, Source, Pred, Succ, Signed, Below, Digits, Upper, Amount, Word as AnyWord, Label, Address, Target}
-use Rattle.asm_forms.specs.declared.item.Item.{Item}
-use Rattle.asm_forms.specs.declared.item.Item.TheVariants.{Operand, Mark}
+use Rattle.asm_fields.specs.declared.field.Field.{Field}
+use Rattle.asm_fields.specs.declared.field.Field.TheVariants.{Rd, Rs1, Rs2, Csr, Source, Pred, Succ, Signed, Below, Digits, Upper, Amount, Word as AnyWord, Label, Address, Target}
+use Rattle.asm_fields.specs.declared.item.Item.{Item}
+use Rattle.asm_fields.specs.declared.item.Item.TheVariants.{Operand, Mark}
 use Rattle.rv_disasm.specs.declared.statement.Statement.{Statement}
 use Rattle.rv_disasm.specs.declared.statement.Statement.TheVariants.{Entry, Org, Byte, Half, Word, Long, Short}
 use Rattle.rv_disasm.specs.declared.values.Values.{Values}

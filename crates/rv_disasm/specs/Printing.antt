@@ -7,10 +7,10 @@ use Rattle.asm_text.specs.Pieces.{Piece, NamePiece, DecimalPiece, HexPiece, Mark
 use Rattle.asm_text.specs.declared.token_kind.TokenKind.{TokenKind}
 use Rattle.asm_text.specs.declared.token_kind.TokenKind.TheVariants.{Name, Number, Comma, Colon, Open, Close}
 use Rattle.asm_forms.specs.Forms.{Row}
-use Rattle.asm_forms.specs.declared.field.Field.{Field}
-use Rattle.asm_forms.specs.declared.field.Field.TheVariants.{Rd, Rs1, Rs2, Csr, Source, Pred, Succ, Signed, Below, Digits, Upper, Amount, Word, Label, Address, Target}
-use Rattle.asm_forms.specs.declared.item.Item.{Item}
-use Rattle.asm_forms.specs.declared.item.Item.TheVariants.{Operand, Mark}
+use Rattle.asm_fields.specs.declared.field.Field.{Field}
+use Rattle.asm_fields.specs.declared.field.Field.TheVariants.{Rd, Rs1, Rs2, Csr, Source, Pred, Succ, Signed, Below, Digits, Upper, Amount, Word, Label, Address, Target}
+use Rattle.asm_fields.specs.declared.item.Item.{Item}
+use Rattle.asm_fields.specs.declared.item.Item.TheVariants.{Operand, Mark}
 use Rattle.rv_disasm.specs.Shown.{row_of, values_of}
 use Rattle.rv_disasm.specs.declared.statement.Statement.{Statement}
 use Rattle.rv_disasm.specs.declared.values.Values.{Values}

@@ -3,7 +3,7 @@ use Rattle.std.specs.Prelude.{ℕ, zero, suc, Bool, true, false, ◌&&◌, cond,
 use Rattle.rv_encoding.specs.declared.instruction.Ins.{Ins}
 use Rattle.rv_encoding.specs.declared.instruction.Ins.TheVariants.{Lui, Auipc, Jal, Jalr, Branch, Load, Store, Imm, Reg, Fence, Ecall, Ebreak, Mret, Wfi, Csr}
 use Rattle.asm_forms.specs.Forms.{Row, form, forms}
-use Rattle.asm_forms.specs.declared.item.Item.{Item}
+use Rattle.asm_fields.specs.declared.item.Item.{Item}
 use Rattle.asm_forms.specs.declared.kind.Kind.{Kind}
 use Rattle.asm_forms.specs.declared.kind.Kind.TheVariants.{Org as OrgKind, Entry as EntryKind, Byte as ByteKind, Half as HalfKind, Word as WordKind, Lui as LuiKind, Auipc as AuipcKind, Jal as JalKind, Jalr as JalrKind, Branch as BranchKind, Load as LoadKind, Store as StoreKind, Imm as ImmKind, Reg as RegKind, Fence as FenceKind, Csr as CsrKind, Fixed as FixedKind, Short as ShortKind}
 use Rattle.asm_forms.specs.contracts.kind.KindPartialEq.TheImpl as kinds

@@ -9,7 +9,7 @@ ghost use Rattle.asm_text.specs.Names.{csr_name};
 use crate::shown::{form_for, kind_of, values_of};
 use crate::statement::Statement;
 use crate::values::Values;
-use asm_forms::{Field, Item};
+use asm_fields::{Field, Item};
 use asm_text::{TokenKind, csr_name, put_decimal, put_hexadecimal, register_name};
 use hart_words::{LINE_LEN, Line, field, signed};
 

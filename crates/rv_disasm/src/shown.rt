@@ -6,7 +6,8 @@ ghost use Rattle.rv_disasm.specs.Tables.{row_option};
 
 use crate::statement::Statement;
 use crate::values::Values;
-use asm_forms::{Form, Item, Kind, all_forms};
+use asm_fields::Item;
+use asm_forms::{Form, Kind, all_forms};
 use rv_encoding::Ins;
 
 fn long_kind(instruction: &Ins) -> Kind

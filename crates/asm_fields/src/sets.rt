@@ -1,6 +1,6 @@
 // The sets of a fence.
 ghost use Rattle.std.specs.Prelude.{◌≡◌};
-ghost use Rattle.asm_forms.specs.Fields.{set_of};
+ghost use Rattle.asm_fields.specs.Fields.{set_of};
 
 use asm_text::{Named, number_in, row};
 

@@ -9,9 +9,9 @@ use Rattle.std.proofs.lemmas.Option.{slice_get_within, unwrap_or-slice_get}
 use Rattle.std.specs.Option.{unwrap_or}
 use Rattle.asm_text.specs.Words.{Word, word_at}
 use Rattle.asm_text.specs.declared.token.Token.{Token}
-use Rattle.asm_forms.specs.Operands.{Operands}
-use Rattle.asm_forms.specs.Fields.{read_items, read_item}
-use Rattle.asm_forms.specs.declared.item.Item.{Item}
+use Rattle.asm_fields.specs.Operands.{Operands}
+use Rattle.asm_fields.specs.Fields.{read_items, read_item}
+use Rattle.asm_fields.specs.declared.item.Item.{Item}
 
 -- a list from one of its places on
 pub drop_at : {A : Type 0} (xs : List A) (i : ℕ) (x : A) → slice_get xs i ≡ Some x → drop i xs ≡ x ∷ drop (i + 1) xs

@@ -2,8 +2,8 @@
 ghost use Rattle.std.specs.Prelude.{◌≡◌, ◌<◌, slice_range, option_map, IfSome};
 ghost use Rattle.asm_text.specs.Words.{word_at};
 ghost use Rattle.asm_text.specs.Reading.{IsTokenOf};
-ghost use Rattle.asm_forms.specs.Fields.{signed_word, unsigned_word, any_word, has_dot, in_word, register_in, csr_in, set_in, label_in, address_in, target_in};
-ghost use Rattle.asm_forms.specs.Seen.{seen_number_option};
+ghost use Rattle.asm_fields.specs.Fields.{signed_word, unsigned_word, any_word, has_dot, in_word, register_in, csr_in, set_in, label_in, address_in, target_in};
+ghost use Rattle.asm_fields.specs.Seen.{seen_number_option};
 
 use crate::number::Number;
 use crate::sets::set_of;
@@ -168,7 +168,8 @@ pub(crate) fn word_in(line: &[u8], token: Token) -> Option<u32>
     }
 }
 
-pub(crate) fn label_in<'a>(line: &'a [u8], token: Token) -> Option<&'a str>
+/// The name of a label, which has no dot.
+pub fn label_in<'a>(line: &'a [u8], token: Token) -> Option<&'a str>
     requires { IsTokenOf line.now token }
     ensures { option_map (λ t. t.now) result ≡ label_in (word_at line.now token) }
 {

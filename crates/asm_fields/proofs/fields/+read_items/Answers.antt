@@ -1,10 +1,10 @@
 use Rattle.std.proofs.Common.{◌+◌, map, drop, option_and_then, sym, ap, ◌∙◌, arith}
 use Rattle.asm_text.specs.Words.{word_at}
 use Rattle.asm_text.specs.Reading.{IsTokenOf}
-use Rattle.asm_forms.specs.Fields.{read_items}
-use Rattle.asm_forms.specs.Seen.{seen}
-use Rattle.asm_forms.proofs.Items.{none_left, none_more, read_on, length_words, is_zero, is_more, tail_is, all_at}
-use Rattle.asm_forms.proofs.fields.+read_items.Goals as goal
+use Rattle.asm_fields.specs.Fields.{read_items}
+use Rattle.asm_fields.specs.Seen.{seen}
+use Rattle.asm_fields.proofs.Items.{none_left, none_more, read_on, length_words, is_zero, is_more, tail_is, all_at}
+use Rattle.asm_fields.proofs.fields.+read_items.Goals as goal
 
 pub returns-else-at-len : goal.returns-else-at-len
 returns-else-at-len t c = none_left c.args.items.now _ _ (is_zero _ _ c.is_empty.ensures c.if-is_empty.true) (omega (arith, length_words c.args.line.now c.args.tokens.now c.args.at))

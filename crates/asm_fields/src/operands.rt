@@ -1,8 +1,8 @@
 // The operands of a line.
 ghost use Rattle.std.specs.Prelude.{◌≡◌};
-ghost use Rattle.asm_forms.specs.Operands.{no_operands};
-ghost use Rattle.asm_forms.specs.Fields.{with_rd, with_rs1, with_rs2, with_csr, with_amount, with_number, as_given};
-ghost use Rattle.asm_forms.specs.Seen.{seen, seen_option, seen_number_option};
+ghost use Rattle.asm_fields.specs.Operands.{no_operands};
+ghost use Rattle.asm_fields.specs.Fields.{with_rd, with_rs1, with_rs2, with_csr, with_amount, with_number, as_given};
+ghost use Rattle.asm_fields.specs.Seen.{seen, seen_option, seen_number_option};
 
 use crate::number::Number;
 
@@ -17,7 +17,8 @@ pub struct Operands<'a> {
     pub number: Number<'a>,
 }
 
-pub(crate) fn without_operands<'a>() -> Operands<'a>
+/// The operands of a line that gives none.
+pub fn without_operands<'a>() -> Operands<'a>
     ensures { seen result ≡ no_operands }
 {
     Operands {

@@ -2,8 +2,8 @@
 ghost use Rattle.std.specs.Prelude.{◌≡◌, ◌+◌, ◌^◌, ◌≤◌, length, map, drop, All};
 ghost use Rattle.asm_text.specs.Words.{word_at};
 ghost use Rattle.asm_text.specs.Reading.{IsTokenOf};
-ghost use Rattle.asm_forms.specs.Fields.{read_field, read_item, read_items, is_same_mark, is_marked, as_upper, in_word, unsigned_word, with_number};
-ghost use Rattle.asm_forms.specs.Seen.{seen, seen_option};
+ghost use Rattle.asm_fields.specs.Fields.{read_field, read_item, read_items, is_same_mark, is_marked, as_upper, in_word, unsigned_word, with_number};
+ghost use Rattle.asm_fields.specs.Seen.{seen, seen_option};
 
 use crate::field::Field;
 use crate::item::Item;
@@ -80,7 +80,7 @@ fn is_same_mark(kind: TokenKind, other: TokenKind) -> bool
 }
 
 /// Whether the token is this mark.
-pub(crate) fn is_marked(kind: TokenKind, line: &[u8], token: Token) -> bool
+pub fn is_marked(kind: TokenKind, line: &[u8], token: Token) -> bool
     ensures { result ≡ is_marked kind (word_at line.now token) }
 {
     // The line is named for the contract, which takes a token for a word of it.
@@ -113,7 +113,7 @@ fn read_item<'a>(
 }
 
 /// The operands that the tokens from this one on are, one token for each item, beside those read already.
-pub(crate) fn read_items<'a>(
+pub fn read_items<'a>(
     items: &[Item],
     line: &'a [u8],
     tokens: &Tokens,

@@ -12,7 +12,7 @@ use Rattle.asm_text.specs.declared.token.Token.{Token}
 use Rattle.asm_text.specs.declared.token_kind.TokenKind.{TokenKind}
 use Rattle.asm_text.specs.declared.token_kind.TokenKind.TheVariants.{Name, Number, Comma, Colon, Open, Close}
 use Rattle.asm_text.proofs.NameLemmas.{numbers_below}
-use Rattle.asm_forms.specs.Fields.{sets}
+use Rattle.asm_fields.specs.Fields.{sets}
 
 -- each set is below 16
 pub sets_below : (t : List ℕ) → IfSome (number_in sets t) (λ n. n < 16)

@@ -4,11 +4,11 @@ use Rattle.asm_text.specs.Names.{Names, register_of, csr_of, number_in}
 use Rattle.asm_text.specs.Words.{Word, NameWord, NumberWord, MarkWord}
 use Rattle.asm_text.specs.declared.token_kind.TokenKind.{TokenKind}
 use Rattle.asm_text.specs.declared.token_kind.TokenKind.TheVariants.{Comma, Colon, Open, Close}
-use Rattle.asm_forms.specs.Operands.{Operands, Number, Given, Absolute, Near, NearLabel}
-use Rattle.asm_forms.specs.declared.field.Field.{Field}
-use Rattle.asm_forms.specs.declared.field.Field.TheVariants.{Rd, Rs1, Rs2, Csr, Source, Pred, Succ, Signed, Below, Digits, Upper, Amount, Word as AnyWord, Label, Address, Target}
-use Rattle.asm_forms.specs.declared.item.Item.{Item}
-use Rattle.asm_forms.specs.declared.item.Item.TheVariants.{Operand, Mark}
+use Rattle.asm_fields.specs.Operands.{Operands, Number, Given, Absolute, Near, NearLabel}
+use Rattle.asm_fields.specs.declared.field.Field.{Field}
+use Rattle.asm_fields.specs.declared.field.Field.TheVariants.{Rd, Rs1, Rs2, Csr, Source, Pred, Succ, Signed, Below, Digits, Upper, Amount, Word as AnyWord, Label, Address, Target}
+use Rattle.asm_fields.specs.declared.item.Item.{Item}
+use Rattle.asm_fields.specs.declared.item.Item.TheVariants.{Operand, Mark}
 
 -- ---- numbers
 
