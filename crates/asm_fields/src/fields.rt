@@ -1,40 +1,62 @@
 // A line's operands, one by one.
-ghost use Rattle.std.specs.Prelude.{◌≡◌, ◌+◌, ◌^◌, ◌≤◌, length, map, drop, All};
+ghost use Rattle.std.specs.Prelude.{◌≡◌, ◌+◌, ◌^◌, ◌≤◌, ℕ, List, length, map, drop, All};
 ghost use Rattle.asm_text.specs.Words.{word_at};
 ghost use Rattle.asm_text.specs.Reading.{IsTokenOf};
-ghost use Rattle.asm_fields.specs.Fields.{read_field, read_item, read_items, is_same_mark, is_marked, as_upper, in_word, unsigned_word, with_number};
-ghost use Rattle.asm_fields.specs.Seen.{seen, seen_option};
+ghost use Rattle.asm_fields.specs.Fields.{read_field, read_item, read_items, is_same_mark, is_marked, as_given, as_upper, as_absolute, in_word, unsigned_word, label_in};
+ghost use Rattle.asm_fields.specs.Seen.{seen, seen_option, seen_number_option};
 
 use crate::field::Field;
 use crate::item::Item;
 use crate::number::Number;
-use crate::operands::{
-    Operands, with_amount, with_csr, with_given, with_number, with_rd, with_rs1, with_rs2,
-};
+use crate::operands::Operands;
 use crate::reading::{
     address_in, below_in, csr_in, label_in, register_in, set_in, signed_in, source_in, target_in,
     word_in,
 };
 use asm_text::{Token, TokenKind, Tokens};
 
-fn read_upper<'a>(line: &'a [u8], token: Token, operands: Operands<'a>) -> Option<Operands<'a>>
-    ensures { seen_option result ≡ with_number (as_upper (in_word (unsigned_word (2 ^ 20)) (word_at line.entry.now token))) (seen operands.entry) }
+// A number as it stands.
+fn given<'a>(value: Option<u32>) -> Option<Number<'a>>
+    ensures { seen_number_option result ≡ as_given value }
 {
-    match below_in(0x10_0000, line, token) {
-        Some(n) => with_number(Some(Number::Given(n * 0x1000)), operands),
+    match value {
+        Some(n) => Some(Number::Given(n)),
         None => None,
     }
 }
 
-#[tactic(auto, unfolding(crate::specs::Fields::read_field))]
-fn read_label<'a>(line: &'a [u8], token: Token, operands: Operands<'a>) -> Option<Operands<'a>>
-    requires { IsTokenOf line.now token }
-    ensures { seen_option result ≡ read_field Field.Label (word_at line.entry.now token) (seen operands.entry) }
+// A number in the upper 20 bits.
+fn upper_in<'a>(token: Token) -> Option<Number<'a>>
+    ensures { (line : List ℕ) → seen_number_option result ≡ as_upper (in_word (unsigned_word (2 ^ 20)) (word_at line token)) }
 {
-    match label_in(line, token) {
-        Some(name) => with_number(Some(Number::Absolute(name)), operands),
+    match below_in(0x10_0000, token) {
+        Some(n) => Some(Number::Given(n * 0x1000)),
         None => None,
     }
+}
+
+// A label's address.
+fn absolute_in<'a>(line: &'a [u8], token: Token) -> Option<Number<'a>>
+    requires { IsTokenOf line.now token }
+    ensures { seen_number_option result ≡ as_absolute (label_in (word_at line.entry.now token)) }
+{
+    match label_in(line, token) {
+        Some(name) => Some(Number::Absolute(name)),
+        None => None,
+    }
+}
+
+// The operands with a value in its field, where there is one.
+macro_rules! with {
+    ($field:ident, $value:expr, $operands:expr) => {
+        match $value {
+            Some($field) => Some(Operands {
+                $field,
+                ..$operands
+            }),
+            None => None,
+        }
+    };
 }
 
 #[tactic(auto, unfolding(crate::specs::Fields::read_field))]
@@ -48,22 +70,22 @@ fn read_field<'a>(
     ensures { seen_option result ≡ read_field field (word_at line.entry.now token) (seen operands.entry) }
 {
     match field {
-        Field::Rd => with_rd(register_in(line, token), operands),
-        Field::Rs1 => with_rs1(register_in(line, token), operands),
-        Field::Rs2 => with_rs2(register_in(line, token), operands),
-        Field::Csr => with_csr(csr_in(line, token), operands),
-        Field::Source => with_rs1(source_in(line, token), operands),
-        Field::Pred => with_rs1(set_in(line, token), operands),
-        Field::Succ => with_rs2(set_in(line, token), operands),
-        Field::Signed(half) => with_given(signed_in(half, line, token), operands),
-        Field::Below(limit) => with_given(below_in(limit, line, token), operands),
-        Field::Digits(limit, _) => with_given(below_in(limit, line, token), operands),
-        Field::Upper => read_upper(line, token, operands),
-        Field::Amount => with_amount(word_in(line, token), operands),
-        Field::Word => with_given(word_in(line, token), operands),
-        Field::Label => read_label(line, token, operands),
-        Field::Address => with_number(address_in(line, token), operands),
-        Field::Target => with_number(target_in(line, token), operands),
+        Field::Rd => with!(rd, register_in(line, token), operands),
+        Field::Rs1 => with!(rs1, register_in(line, token), operands),
+        Field::Rs2 => with!(rs2, register_in(line, token), operands),
+        Field::Csr => with!(csr, csr_in(line, token), operands),
+        Field::Source => with!(rs1, source_in(token), operands),
+        Field::Pred => with!(rs1, set_in(line, token), operands),
+        Field::Succ => with!(rs2, set_in(line, token), operands),
+        Field::Signed(half) => with!(number, given(signed_in(half, token)), operands),
+        Field::Below(limit) => with!(number, given(below_in(limit, token)), operands),
+        Field::Digits(limit, _) => with!(number, given(below_in(limit, token)), operands),
+        Field::Upper => with!(number, upper_in(token), operands),
+        Field::Amount => with!(amount, word_in(token), operands),
+        Field::Word => with!(number, given(word_in(token)), operands),
+        Field::Label => with!(number, absolute_in(line, token), operands),
+        Field::Address => with!(number, address_in(line, token), operands),
+        Field::Target => with!(number, target_in(line, token), operands),
     }
 }
 
@@ -80,11 +102,9 @@ fn is_same_mark(kind: TokenKind, other: TokenKind) -> bool
 }
 
 /// Whether the token is this mark.
-pub fn is_marked(kind: TokenKind, line: &[u8], token: Token) -> bool
-    ensures { result ≡ is_marked kind (word_at line.now token) }
+pub fn is_marked(kind: TokenKind, token: Token) -> bool
+    ensures { (line : List ℕ) → result ≡ is_marked kind (word_at line token) }
 {
-    // The line is named for the contract, which takes a token for a word of it.
-    let _length = line.len();
     match token.kind {
         TokenKind::Name | TokenKind::Number => false,
         _ => is_same_mark(kind, token.kind),
@@ -103,7 +123,7 @@ fn read_item<'a>(
     match item {
         Item::Operand(field) => read_field(field, line, token, operands),
         Item::Mark(kind) => {
-            if is_marked(kind, line, token) {
+            if is_marked(kind, token) {
                 Some(operands)
             } else {
                 None

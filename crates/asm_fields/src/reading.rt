@@ -1,5 +1,5 @@
 // Operands as they are read.
-ghost use Rattle.std.specs.Prelude.{◌≡◌, ◌<◌, slice_range, option_map, IfSome};
+ghost use Rattle.std.specs.Prelude.{◌≡◌, ◌<◌, ℕ, List, slice_range, option_map, IfSome};
 ghost use Rattle.asm_text.specs.Words.{word_at};
 ghost use Rattle.asm_text.specs.Reading.{IsTokenOf};
 ghost use Rattle.asm_fields.specs.Fields.{signed_word, unsigned_word, any_word, has_dot, in_word, register_in, csr_in, set_in, label_in, address_in, target_in};
@@ -120,11 +120,10 @@ pub(crate) fn set_in(line: &[u8], token: Token) -> Option<u8>
     }
 }
 
-pub(crate) fn source_in(line: &[u8], token: Token) -> Option<u8>
-    ensures { result ≡ in_word (unsigned_word 32) (word_at line.now token) }
+/// A number below 32, whatever line the token is of.
+pub(crate) fn source_in(token: Token) -> Option<u8>
+    ensures { (line : List ℕ) → result ≡ in_word (unsigned_word 32) (word_at line token) }
 {
-    // The line is named for the contract, which takes a token for a word of it.
-    let _length = line.len();
     match token.kind {
         TokenKind::Number => match unsigned_word(32, token.value) {
             Some(n) => Some(n as u8),
@@ -134,34 +133,28 @@ pub(crate) fn source_in(line: &[u8], token: Token) -> Option<u8>
     }
 }
 
-pub(crate) fn signed_in(half: u32, line: &[u8], token: Token) -> Option<u32>
-    ensures { result ≡ in_word (signed_word half) (word_at line.now token) }
+pub(crate) fn signed_in(half: u32, token: Token) -> Option<u32>
+    ensures { (line : List ℕ) → result ≡ in_word (signed_word half) (word_at line token) }
 {
-    // The line is named for the contract, which takes a token for a word of it.
-    let _length = line.len();
     match token.kind {
         TokenKind::Number => signed_word(half, token.value),
         _ => None,
     }
 }
 
-pub(crate) fn below_in(limit: u32, line: &[u8], token: Token) -> Option<u32>
-    ensures value { result ≡ in_word (unsigned_word limit) (word_at line.now token) }
+pub(crate) fn below_in(limit: u32, token: Token) -> Option<u32>
+    ensures value { (line : List ℕ) → result ≡ in_word (unsigned_word limit) (word_at line token) }
     ensures small { IfSome result (λ n. n < limit) }
 {
-    // The line is named for the contract, which takes a token for a word of it.
-    let _length = line.len();
     match token.kind {
         TokenKind::Number => unsigned_word(limit, token.value),
         _ => None,
     }
 }
 
-pub(crate) fn word_in(line: &[u8], token: Token) -> Option<u32>
-    ensures { result ≡ in_word any_word (word_at line.now token) }
+pub(crate) fn word_in(token: Token) -> Option<u32>
+    ensures { (line : List ℕ) → result ≡ in_word any_word (word_at line token) }
 {
-    // The line is named for the contract, which takes a token for a word of it.
-    let _length = line.len();
     match token.kind {
         TokenKind::Number => any_word(token.value),
         _ => None,

@@ -104,7 +104,7 @@ fn label_of<'a>(line: &'a [u8], tokens: &Tokens) -> Option<&'a str>
     }
     let name = tokens.get(0);
     let colon = tokens.get(1);
-    if is_marked(TokenKind::Colon, line, colon) {
+    if is_marked(TokenKind::Colon, colon) {
         label_in(line, name)
     } else {
         None
