@@ -1,5 +1,5 @@
 -- The rows of the table, one by one, and the words behind a label.
-use Rattle.std.proofs.Common.{◌≡◌, ℕ, suc, ◌+◌, ◌<◌, List, [], ◌∷◌, drop, get_or, map, length, Some, None, Bool, true, false, cond, Err, refl, ap, ◌∙◌, arith, drop-cons}
+use Rattle.std.proofs.Common.{◌≡◌, ℕ, suc, ◌+◌, ◌<◌, List, ◌∷◌, drop, get_or, map, length, Some, None, Bool, true, false, cond, Err, refl, ap, ◌∙◌, arith, drop-cons}
 use Rattle.std.specs.List.{slice_get}
 use Rattle.asm_text.specs.Names.{is_same_text}
 use Rattle.asm_text.specs.Words.{Word, word_at}

@@ -1,3 +1,4 @@
 pub mod Chosen
 pub mod Zeros
 pub mod Fitting
+pub mod SameKinds

@@ -1,4 +1,5 @@
 pub mod Forms
+pub mod Kinds
 pub mod Operations
 pub mod Statements
 pub mod Seen

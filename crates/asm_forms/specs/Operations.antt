@@ -1,7 +1,6 @@
 -- What a line does once its operands are known.
 use Rattle.std.specs.Prelude.{ℕ, ◌+◌, ◌*◌, ◌/◌, ◌%◌, ◌^◌, Bool, true, ◌&&◌, nat_le, List, [], ◌∷◌, ◌++◌}
-use Rattle.std.specs.Int.{to_le_bytes}
-use Rattle.std.proofs.Common.{w16, w32}
+use Rattle.std.specs.Int.{to_le_bytes, w16, w32}
 use Rattle.hart_words.specs.Sign.{sign_extended}
 use Rattle.hart_memory.specs.Memory.{zeros}
 use Rattle.rv_encoding.specs.Fits.{can_be_spelled}

@@ -1,8 +1,7 @@
 // The bytes of an operation.
 ghost use Rattle.std.specs.Prelude.{◌≡◌, ◌++◌, ◌≤◌, IsTrue, OnOk};
 ghost use Rattle.hart_memory.specs.Memory.{zeros};
-ghost use Rattle.std.specs.Int.{to_le_bytes};
-ghost use Rattle.std.proofs.Common.{w16, w32};
+ghost use Rattle.std.specs.Int.{to_le_bytes, w16, w32};
 ghost use Rattle.rv_encoding.specs.Fits.{can_be_spelled};
 ghost use Rattle.rv_encoding.specs.Words.{word_of};
 ghost use Rattle.asm_forms.specs.Operations.{bytes_of, operation_fits};

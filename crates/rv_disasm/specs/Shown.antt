@@ -3,10 +3,10 @@ use Rattle.std.specs.Prelude.{ℕ, zero, suc, Bool, true, false, ◌&&◌, cond,
 use Rattle.rv_encoding.specs.declared.instruction.Ins.{Ins}
 use Rattle.rv_encoding.specs.declared.instruction.Ins.TheVariants.{Lui, Auipc, Jal, Jalr, Branch, Load, Store, Imm, Reg, Fence, Ecall, Ebreak, Mret, Wfi, Csr}
 use Rattle.asm_forms.specs.Forms.{Row, form, forms}
+use Rattle.asm_forms.specs.Kinds.{is_same_kind}
 use Rattle.asm_fields.specs.declared.item.Item.{Item}
 use Rattle.asm_forms.specs.declared.kind.Kind.{Kind}
 use Rattle.asm_forms.specs.declared.kind.Kind.TheVariants.{Org as OrgKind, Entry as EntryKind, Byte as ByteKind, Half as HalfKind, Word as WordKind, Lui as LuiKind, Auipc as AuipcKind, Jal as JalKind, Jalr as JalrKind, Branch as BranchKind, Load as LoadKind, Store as StoreKind, Imm as ImmKind, Reg as RegKind, Fence as FenceKind, Csr as CsrKind, Fixed as FixedKind, Short as ShortKind}
-use Rattle.asm_forms.specs.contracts.kind.KindPartialEq.TheImpl as kinds
 use Rattle.rv_disasm.specs.declared.statement.Statement.{Statement}
 use Rattle.rv_disasm.specs.declared.statement.Statement.TheVariants.{Entry, Org, Byte, Half, Word, Long, Short}
 use Rattle.rv_disasm.specs.declared.values.Values.{Values}
@@ -80,7 +80,7 @@ has_place (i ∷ is) number = true
 
 -- the row is of the kind, and has a place for the number
 abbrev pub prints : Row → Kind → ℕ → Bool
-prints row kind number = kinds.ghosts.eq row.kind kind && has_place row.items number
+prints row kind number = is_same_kind row.kind kind && has_place row.items number
 
 -- the first such row
 abbrev pub row_in : List Row → Kind → ℕ → Option Row

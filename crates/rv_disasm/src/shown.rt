@@ -112,6 +112,7 @@ fn has_place(items: &[Item], number: u32) -> bool
 }
 
 // Whether the row is of the kind, and has a place for the number.
+#[tactic(auto, using(asm_forms::proofs::SameKinds::same_kind))]
 fn prints(form: &Form, kind: Kind, number: u32) -> bool
     ensures { result ≡ prints (row_of form.now) kind number }
 {
