@@ -14,9 +14,10 @@ use Rattle.rvc_encoding.specs.Rows.{spelled16}
 use Rattle.rvc_encoding.specs.declared.compressed.Cins.{Cins}
 use Rattle.rvc_encoding.proofs.Apart.{spelled_spells as half_spelled_spells}
 use Rattle.rvc_encoding.proofs.Again.{half-spells, fits-spells}
+use Rattle.hart_memory.specs.Memory.{AreBytes}
 use Rattle.asm_forms.specs.Operations.{bytes_of}
 use Rattle.rv_disasm.specs.Fitting.{statement_fits}
-use Rattle.rv_disasm.specs.Listing.{short_or, long_or, word_statement, long_first, first_statement, size_of, further, listed, AreBytes}
+use Rattle.rv_disasm.specs.Listing.{short_or, long_or, word_statement, long_first, first_statement, size_of, further, listed}
 use Rattle.rv_disasm.specs.declared.statement.Statement.{Statement}
 use Rattle.rv_disasm.specs.declared.statement.Statement.TheVariants.{Byte, Half, Word}
 use Rattle.rv_disasm.proofs.Sentences.{operation_for}
@@ -87,7 +88,7 @@ pub record Takings (s : Statement) (b : ℕ) (bs : List ℕ) : Type 0 where
 long_takings : (a b : ℕ) (bs : List ℕ) → a < 256 → b < 256 → AreBytes bs → Takings (long_first (a + 256 * b) bs) a (b ∷ bs)
 long_takings a b [] h k r = record { more = 1; puts = puts_half (a + 256 * b) a b refl h k; count = refl }
 long_takings a b (c ∷ []) h k r = record { more = 1; puts = puts_half (a + 256 * b) a b refl h k; count = refl }
-long_takings a b (c ∷ d ∷ bs) h k r = record { more = 3; puts = puts_of_word a b c d h k r.0 r.1.0; count = refl }
+long_takings a b (c ∷ d ∷ bs) h k r = record { more = 3; puts = puts_of_word a b c d h k (r 0) (r 1); count = refl }
 
 pub takings : (b : ℕ) (bs : List ℕ) → b < 256 → AreBytes bs → Takings (first_statement b bs) b bs
 unfolding first_statement
@@ -95,8 +96,8 @@ takings a [] h r = record { more = 0; puts = puts_byte a h; count = refl }
 takings a (b ∷ bs) h r = by_test ((a + 256 * b) % 4 == 3)
   where
     by_test : (t : Bool) → Takings (cond t (long_first (a + 256 * b) bs) (short_or (spelled16 (a + 256 * b)) (a + 256 * b))) a (b ∷ bs)
-    by_test true = long_takings a b bs h r.0 r.1
-    by_test false = record { more = 1; puts = puts_short (a + 256 * b) (spelled16 (a + 256 * b)) a b refl refl h r.0; count = refl }
+    by_test true = long_takings a b bs h (r 0) (λ k. r (suc k))
+    by_test false = record { more = 1; puts = puts_short (a + 256 * b) (spelled16 (a + 256 * b)) a b refl refl h (r 0); count = refl }
 
 -- the statements of a listing put its bytes
 abbrev pub ArePuts : List Statement → List ℕ → Type 0
@@ -106,8 +107,8 @@ ArePuts (s ∷ ss) bs = (front : List ℕ) × (rest : List ℕ) × Puts s front 
 pub listed_puts : (skip : ℕ) (bs : List ℕ) → AreBytes bs → ArePuts (listed skip bs) (drop skip bs)
 listed_puts zero [] r = refl
 listed_puts (suc skip) [] r = refl
-listed_puts (suc skip) (b ∷ bs) r = listed_puts skip bs r.1
+listed_puts (suc skip) (b ∷ bs) r = listed_puts skip bs (λ k. r (suc k))
 listed_puts zero (b ∷ bs) r =
-    let t = takings b bs r.0 r.1 in
+    let t = takings b bs (r 0) (λ k. r (suc k)) in
     let k : further (first_statement b bs) ≡ t.more = omega (arith, t.puts.some, t.puts.size, t.count) in
-    (b ∷ take t.more bs, drop t.more bs, t.puts, ap (λ x. b ∷ x) (sym (take-append-drop t.more bs)), subst (λ (n : ℕ). ArePuts (listed n bs) (drop t.more bs)) (sym k) (listed_puts t.more bs r.1))
+    (b ∷ take t.more bs, drop t.more bs, t.puts, ap (λ x. b ∷ x) (sym (take-append-drop t.more bs)), subst (λ (n : ℕ). ArePuts (listed n bs) (drop t.more bs)) (sym k) (listed_puts t.more bs (λ k. r (suc k))))

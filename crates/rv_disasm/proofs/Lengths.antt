@@ -29,7 +29,8 @@ use Rattle.asm_fields.specs.declared.item.Item.TheVariants.{Operand, Mark}
 use Rattle.rv_disasm.specs.Shown.{row_of, values_of}
 use Rattle.rv_disasm.specs.Printing.{letters, set_piece, csr_by, field_piece, items_pieces, operands_pieces, row_pieces, line_pieces}
 use Rattle.rv_disasm.specs.Fitting.{is_word, is_near_zero, field_fits, starts_with_mark, items_fit, statement_fits}
-use Rattle.rv_disasm.specs.Listing.{line_text, behind, text_from, listed, listing, heading, entry_text, org_text, segment_text, image_text, AreBytes, AreAllBytes}
+use Rattle.hart_memory.specs.Memory.{AreBytes}
+use Rattle.rv_disasm.specs.Listing.{line_text, behind, text_from, listed, listing, heading, entry_text, org_text, segment_text, image_text, AreAllBytes}
 use Rattle.rv_disasm.specs.declared.statement.Statement.{Statement}
 use Rattle.rv_disasm.specs.declared.statement.Statement.TheVariants.{Entry, Org, Byte, Half, Word, Long, Short}
 use Rattle.rv_disasm.specs.declared.values.Values.{Values}
@@ -37,7 +38,8 @@ use Rattle.rv_disasm.proofs.Again.{three, near_small, value_by, always}
 use Rattle.rv_disasm.proofs.Table.{field_bound, items_bound}
 use Rattle.rv_disasm.proofs.Sentences.{most_for, parts, statement_row, statement_makes}
 use Rattle.rv_disasm.proofs.Fronts.{Puts, ArePuts, listed_puts}
-use Rattle.rv_disasm.proofs.Running.{StandBeside, stretch_of, holds_small}
+use Rattle.rv_assembler.specs.Relation.{stretch_of}
+use Rattle.rv_disasm.proofs.Running.{StandBeside, holds_small}
 use Rattle.rv_disasm.proofs.Whole.{image_again, stands}
 
 -- ---- numbers and names
@@ -246,8 +248,7 @@ listing_returns base bytes r some h =
 
 -- bytes are below 256
 pub bytes_from : (bytes : List ℕ) → ((i : ℕ) → Fits w8 (get_or bytes i 0)) → AreBytes bytes
-bytes_from [] h = tt
-bytes_from (b ∷ bs) h = (Fits-lt-pow (h 0), bytes_from bs (λ i. h (suc i)))
+bytes_from bytes h i = Fits-lt-pow (h i)
 
 pub text_returns : (base : ℕ) (bytes text : List ℕ) → ((i : ℕ) → Fits w8 (get_or bytes i 0)) → text ≡ listing base bytes → 0 < length bytes → holds base (length bytes) ≡ true
     → assembled (heading base ++ text) ≡ Ok (record { image = record { start = base; segments = record { address = base; content = bytes } ∷ [] }; symbols = [] })

@@ -7,13 +7,15 @@ use Rattle.std.proofs.lemmas.Bool.{cond-false, lt-leb, or_parts, or_from}
 use Rattle.std.specs.declared.result.Result.TheVariants.{Ok}
 use Rattle.hart_memory.specs.Place.{place, place_by, is_in_rom, is_in_ram, is_in_memory, holds}
 use Rattle.hart_memory.specs.Image.{SegmentView}
+use Rattle.hart_memory.specs.Memory.{AreBytes}
 use Rattle.hart_memory.specs.declared.image.TheConstants.{MAX_SEGMENTS}
 use Rattle.rv_assembler.specs.Laying.{Laid, laid, grow, shut, are_apart, overlaps}
 use Rattle.asm_forms.specs.Operations.{bytes_of}
 use Rattle.rv_assembler.specs.Source.{◌>>=◌, Built, entry_by}
+use Rattle.rv_assembler.specs.Relation.{stretch_of}
 use Rattle.rv_assembler.specs.declared.stretch.Stretch.{Stretch}
 use Rattle.asm_forms.specs.declared.extent.Extent.TheVariants.{Takes}
-use Rattle.rv_disasm.specs.Listing.{listed, AreBytes}
+use Rattle.rv_disasm.specs.Listing.{listed}
 use Rattle.rv_disasm.specs.declared.statement.Statement.{Statement}
 use Rattle.rv_disasm.specs.declared.statement.Statement.TheVariants.{Entry, Org, Byte, Half, Word, Long, Short}
 use Rattle.rv_disasm.proofs.Sentences.{extent_for, operation_for}
@@ -23,10 +25,6 @@ use Rattle.rv_disasm.proofs.Passes.{run_first, run_second, built_by}
 abbrev pub segments_statements : List SegmentView → List Statement
 segments_statements [] = []
 segments_statements (s ∷ ss) = Org s.address ∷ (listed 0 s.content ++ segments_statements ss)
-
--- a segment without its bytes
-abbrev pub stretch_of : SegmentView → Stretch
-stretch_of s = record { base = s.address; size = length s.content }
 
 -- segments that may stand beside these, one after another
 abbrev pub StandBeside : List Stretch → List SegmentView → Type 0

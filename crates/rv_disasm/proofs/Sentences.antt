@@ -23,6 +23,7 @@ use Rattle.asm_forms.specs.declared.operation.Operation.TheVariants.{Org as OrgO
 use Rattle.asm_forms.specs.declared.extent.Extent.{Extent}
 use Rattle.asm_forms.specs.declared.extent.Extent.TheVariants.{Org as OrgExtent, Entry as EntryExtent, Takes}
 use Rattle.rv_disasm.specs.Shown.{kind_of, values_of, row_for, row_of}
+use Rattle.rv_disasm.specs.Listing.{size_of}
 use Rattle.rv_disasm.specs.Printing.{operands_pieces, row_pieces, line_pieces}
 use Rattle.rv_disasm.specs.Fitting.{field_fits, starts_with_mark, items_fit, statement_fits, room_for}
 use Rattle.rv_disasm.specs.declared.statement.Statement.{Statement}
@@ -46,11 +47,7 @@ operation_for (Short c) = Compressed c
 abbrev pub extent_for : Statement → Extent
 extent_for (Entry e) = EntryExtent
 extent_for (Org p) = OrgExtent p
-extent_for (Byte b) = Takes 1
-extent_for (Half h) = Takes 2
-extent_for (WordStatement w) = Takes 4
-extent_for (Long i) = Takes 4
-extent_for (Short c) = Takes 2
+extent_for s = Takes (size_of s)
 
 -- the most that the text of its line has
 abbrev pub most_for : Statement → ℕ

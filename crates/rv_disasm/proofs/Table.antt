@@ -9,19 +9,19 @@ use Rattle.rv_encoding.specs.Fits.{is_register, is_signed, can_be_spelled}
 use Rattle.rv_encoding.specs.declared.instruction.Ins.{Ins}
 use Rattle.rv_encoding.specs.declared.instruction.Ins.TheVariants.{Lui, Auipc, Jal, Jalr, Branch, Load, Store, Imm, Reg, Fence, Ecall, Ebreak, Mret, Wfi, Csr}
 use Rattle.rv_encoding.specs.declared.operations.BranchOp.{BranchOp}
-use Rattle.rv_encoding.specs.declared.operations.BranchOp.TheVariants.{Beq, Bne, Blt, Bge, Bltu, Bgeu}
+use Rattle.rv_encoding.specs.declared.operations.BranchOp.TheVariants.{Beq}
 use Rattle.rv_encoding.specs.declared.operations.LoadOp.{LoadOp}
-use Rattle.rv_encoding.specs.declared.operations.LoadOp.TheVariants.{Lb, Lh, Lw, Lbu, Lhu}
+use Rattle.rv_encoding.specs.declared.operations.LoadOp.TheVariants.{Lb}
 use Rattle.rv_encoding.specs.declared.operations.StoreOp.{StoreOp}
-use Rattle.rv_encoding.specs.declared.operations.StoreOp.TheVariants.{Sb, Sh, Sw}
+use Rattle.rv_encoding.specs.declared.operations.StoreOp.TheVariants.{Sb}
 use Rattle.rv_encoding.specs.declared.operations.ImmOp.{ImmOp}
-use Rattle.rv_encoding.specs.declared.operations.ImmOp.TheVariants.{Addi, Slti, Sltiu, Xori, Ori, Andi, Slli, Srli, Srai}
+use Rattle.rv_encoding.specs.declared.operations.ImmOp.TheVariants.{Addi, Slli, Srli, Srai}
 use Rattle.rv_encoding.specs.declared.operations.RegOp.{RegOp}
-use Rattle.rv_encoding.specs.declared.operations.RegOp.TheVariants.{Add, Sub, Sll, Slt, Sltu, Xor, Srl, Sra, Or, And, Mul, Mulh, Mulhsu, Mulhu, Div, Divu, Rem, Remu}
+use Rattle.rv_encoding.specs.declared.operations.RegOp.TheVariants.{Add}
 use Rattle.rv_encoding.specs.declared.operations.CsrOp.{CsrOp}
-use Rattle.rv_encoding.specs.declared.operations.CsrOp.TheVariants.{Csrrw, Csrrs, Csrrc, Csrrwi, Csrrsi, Csrrci}
+use Rattle.rv_encoding.specs.declared.operations.CsrOp.TheVariants.{Csrrw, Csrrwi, Csrrsi, Csrrci}
 use Rattle.rvc_encoding.specs.declared.row.CRow.{CRow}
-use Rattle.rvc_encoding.specs.declared.row.CRow.TheVariants.{Addi4spn as CAddi4spn, Lw as CLw, Sw as CSw, Nop as CNop, Addi as CAddi, Jal as CJal, Li as CLi, Addi16sp as CAddi16sp, Lui as CLui, Srli as CSrli, Srai as CSrai, Andi as CAndi, Sub as CSub, Xor as CXor, Or as COr, And as CAnd, J as CJ, Beqz as CBeqz, Bnez as CBnez, Slli as CSlli, Lwsp as CLwsp, Jr as CJr, Mv as CMv, Ebreak as CEbreak, Jalr as CJalr, Add as CAdd, Swsp as CSwsp}
+use Rattle.rvc_encoding.specs.declared.row.CRow.TheVariants.{Nop as CNop, Ebreak as CEbreak}
 use Rattle.asm_forms.specs.Forms.{Row, form, short_signed}
 use Rattle.asm_forms.specs.Statements.{Task, read_form, task_named, task_or}
 use Rattle.asm_forms.specs.declared.asm_why.AsmWhy.{AsmWhy}
@@ -115,72 +115,37 @@ pub word_row : (n : ℕ) → IsRow (row_for WordKind n) WordKind 60
 unfolding row_for task_named
 word_row n = record { same = refl; sound = refl; rest = λ ws. Err BadOperands; named = λ ws h. refl }
 
--- ---- instructions of 32 bits
+-- ---- instructions of 32 bits, operation by operation: the last line of a lemma is one case for each of the others
 
 branch_row : (op : BranchOp) (n : ℕ) → IsRow (row_for (BranchKind op) n) (BranchKind op) 60
 unfolding row_for task_named
 branch_row Beq n = record { same = refl; sound = refl; rest = λ ws. Err BadOperands; named = λ ws h. refl }
-branch_row Bne n = record { same = refl; sound = refl; rest = λ ws. Err BadOperands; named = λ ws h. refl }
-branch_row Blt n = record { same = refl; sound = refl; rest = λ ws. Err BadOperands; named = λ ws h. refl }
-branch_row Bge n = record { same = refl; sound = refl; rest = λ ws. Err BadOperands; named = λ ws h. refl }
-branch_row Bltu n = record { same = refl; sound = refl; rest = λ ws. Err BadOperands; named = λ ws h. refl }
-branch_row Bgeu n = record { same = refl; sound = refl; rest = λ ws. Err BadOperands; named = λ ws h. refl }
+branch_row _ n = record { same = refl; sound = refl; rest = λ ws. Err BadOperands; named = λ ws h. refl }
 
 load_row : (op : LoadOp) (n : ℕ) → IsRow (row_for (LoadKind op) n) (LoadKind op) 60
 unfolding row_for task_named
 load_row Lb n = record { same = refl; sound = refl; rest = λ ws. Err BadOperands; named = λ ws h. refl }
-load_row Lh n = record { same = refl; sound = refl; rest = λ ws. Err BadOperands; named = λ ws h. refl }
-load_row Lw n = record { same = refl; sound = refl; rest = λ ws. Err BadOperands; named = λ ws h. refl }
-load_row Lbu n = record { same = refl; sound = refl; rest = λ ws. Err BadOperands; named = λ ws h. refl }
-load_row Lhu n = record { same = refl; sound = refl; rest = λ ws. Err BadOperands; named = λ ws h. refl }
+load_row _ n = record { same = refl; sound = refl; rest = λ ws. Err BadOperands; named = λ ws h. refl }
 
 store_row : (op : StoreOp) (n : ℕ) → IsRow (row_for (StoreKind op) n) (StoreKind op) 60
 unfolding row_for task_named
 store_row Sb n = record { same = refl; sound = refl; rest = λ ws. Err BadOperands; named = λ ws h. refl }
-store_row Sh n = record { same = refl; sound = refl; rest = λ ws. Err BadOperands; named = λ ws h. refl }
-store_row Sw n = record { same = refl; sound = refl; rest = λ ws. Err BadOperands; named = λ ws h. refl }
+store_row _ n = record { same = refl; sound = refl; rest = λ ws. Err BadOperands; named = λ ws h. refl }
 
 imm_row : (op : ImmOp) (n : ℕ) → IsRow (row_for (ImmKind op) n) (ImmKind op) 60
 unfolding row_for task_named
 imm_row Addi n = record { same = refl; sound = refl; rest = λ ws. Err BadOperands; named = λ ws h. refl }
-imm_row Slti n = record { same = refl; sound = refl; rest = λ ws. Err BadOperands; named = λ ws h. refl }
-imm_row Sltiu n = record { same = refl; sound = refl; rest = λ ws. Err BadOperands; named = λ ws h. refl }
-imm_row Xori n = record { same = refl; sound = refl; rest = λ ws. Err BadOperands; named = λ ws h. refl }
-imm_row Ori n = record { same = refl; sound = refl; rest = λ ws. Err BadOperands; named = λ ws h. refl }
-imm_row Andi n = record { same = refl; sound = refl; rest = λ ws. Err BadOperands; named = λ ws h. refl }
-imm_row Slli n = record { same = refl; sound = refl; rest = λ ws. Err BadOperands; named = λ ws h. refl }
-imm_row Srli n = record { same = refl; sound = refl; rest = λ ws. Err BadOperands; named = λ ws h. refl }
-imm_row Srai n = record { same = refl; sound = refl; rest = λ ws. Err BadOperands; named = λ ws h. refl }
+imm_row _ n = record { same = refl; sound = refl; rest = λ ws. Err BadOperands; named = λ ws h. refl }
 
 reg_row : (op : RegOp) (n : ℕ) → IsRow (row_for (RegKind op) n) (RegKind op) 60
 unfolding row_for task_named
 reg_row Add n = record { same = refl; sound = refl; rest = λ ws. Err BadOperands; named = λ ws h. refl }
-reg_row Sub n = record { same = refl; sound = refl; rest = λ ws. Err BadOperands; named = λ ws h. refl }
-reg_row Sll n = record { same = refl; sound = refl; rest = λ ws. Err BadOperands; named = λ ws h. refl }
-reg_row Slt n = record { same = refl; sound = refl; rest = λ ws. Err BadOperands; named = λ ws h. refl }
-reg_row Sltu n = record { same = refl; sound = refl; rest = λ ws. Err BadOperands; named = λ ws h. refl }
-reg_row Xor n = record { same = refl; sound = refl; rest = λ ws. Err BadOperands; named = λ ws h. refl }
-reg_row Srl n = record { same = refl; sound = refl; rest = λ ws. Err BadOperands; named = λ ws h. refl }
-reg_row Sra n = record { same = refl; sound = refl; rest = λ ws. Err BadOperands; named = λ ws h. refl }
-reg_row Or n = record { same = refl; sound = refl; rest = λ ws. Err BadOperands; named = λ ws h. refl }
-reg_row And n = record { same = refl; sound = refl; rest = λ ws. Err BadOperands; named = λ ws h. refl }
-reg_row Mul n = record { same = refl; sound = refl; rest = λ ws. Err BadOperands; named = λ ws h. refl }
-reg_row Mulh n = record { same = refl; sound = refl; rest = λ ws. Err BadOperands; named = λ ws h. refl }
-reg_row Mulhsu n = record { same = refl; sound = refl; rest = λ ws. Err BadOperands; named = λ ws h. refl }
-reg_row Mulhu n = record { same = refl; sound = refl; rest = λ ws. Err BadOperands; named = λ ws h. refl }
-reg_row Div n = record { same = refl; sound = refl; rest = λ ws. Err BadOperands; named = λ ws h. refl }
-reg_row Divu n = record { same = refl; sound = refl; rest = λ ws. Err BadOperands; named = λ ws h. refl }
-reg_row Rem n = record { same = refl; sound = refl; rest = λ ws. Err BadOperands; named = λ ws h. refl }
-reg_row Remu n = record { same = refl; sound = refl; rest = λ ws. Err BadOperands; named = λ ws h. refl }
+reg_row _ n = record { same = refl; sound = refl; rest = λ ws. Err BadOperands; named = λ ws h. refl }
 
 csr_row : (op : CsrOp) (n : ℕ) → IsRow (row_for (CsrKind op) n) (CsrKind op) 60
 unfolding row_for task_named
 csr_row Csrrw n = record { same = refl; sound = refl; rest = λ ws. Err BadOperands; named = λ ws h. refl }
-csr_row Csrrs n = record { same = refl; sound = refl; rest = λ ws. Err BadOperands; named = λ ws h. refl }
-csr_row Csrrc n = record { same = refl; sound = refl; rest = λ ws. Err BadOperands; named = λ ws h. refl }
-csr_row Csrrwi n = record { same = refl; sound = refl; rest = λ ws. Err BadOperands; named = λ ws h. refl }
-csr_row Csrrsi n = record { same = refl; sound = refl; rest = λ ws. Err BadOperands; named = λ ws h. refl }
-csr_row Csrrci n = record { same = refl; sound = refl; rest = λ ws. Err BadOperands; named = λ ws h. refl }
+csr_row _ n = record { same = refl; sound = refl; rest = λ ws. Err BadOperands; named = λ ws h. refl }
 
 lui_row : (n : ℕ) → IsRow (row_for LuiKind n) LuiKind 60
 unfolding row_for task_named
@@ -247,67 +212,36 @@ MakesLong p i = Makes p (row_for (long_kind i) (long_values i).number).items (lo
 long_branch : (op : BranchOp) (rs1 rs2 offset p : ℕ) → p < 2 ^ 32 → can_be_spelled (Branch op rs1 rs2 offset) ≡ true → MakesLong p (Branch op rs1 rs2 offset)
 unfolding row_for
 long_branch Beq rs1 rs2 offset p l h = makes_branch Beq rs1 rs2 offset p l h
-long_branch Bne rs1 rs2 offset p l h = makes_branch Bne rs1 rs2 offset p l h
-long_branch Blt rs1 rs2 offset p l h = makes_branch Blt rs1 rs2 offset p l h
-long_branch Bge rs1 rs2 offset p l h = makes_branch Bge rs1 rs2 offset p l h
-long_branch Bltu rs1 rs2 offset p l h = makes_branch Bltu rs1 rs2 offset p l h
-long_branch Bgeu rs1 rs2 offset p l h = makes_branch Bgeu rs1 rs2 offset p l h
+long_branch op rs1 rs2 offset p l h = makes_branch op rs1 rs2 offset p l h
 
 long_load : (op : LoadOp) (rd rs1 imm p : ℕ) → p < 2 ^ 32 → can_be_spelled (Load op rd rs1 imm) ≡ true → MakesLong p (Load op rd rs1 imm)
 unfolding row_for
 long_load Lb rd rs1 imm p l h = makes_load Lb rd rs1 imm p h
-long_load Lh rd rs1 imm p l h = makes_load Lh rd rs1 imm p h
-long_load Lw rd rs1 imm p l h = makes_load Lw rd rs1 imm p h
-long_load Lbu rd rs1 imm p l h = makes_load Lbu rd rs1 imm p h
-long_load Lhu rd rs1 imm p l h = makes_load Lhu rd rs1 imm p h
+long_load op rd rs1 imm p l h = makes_load op rd rs1 imm p h
 
 long_store : (op : StoreOp) (rs1 rs2 imm p : ℕ) → p < 2 ^ 32 → can_be_spelled (Store op rs1 rs2 imm) ≡ true → MakesLong p (Store op rs1 rs2 imm)
 unfolding row_for
 long_store Sb rs1 rs2 imm p l h = makes_store Sb rs1 rs2 imm p h
-long_store Sh rs1 rs2 imm p l h = makes_store Sh rs1 rs2 imm p h
-long_store Sw rs1 rs2 imm p l h = makes_store Sw rs1 rs2 imm p h
+long_store op rs1 rs2 imm p l h = makes_store op rs1 rs2 imm p h
 
 long_imm : (op : ImmOp) (rd rs1 imm p : ℕ) → p < 2 ^ 32 → can_be_spelled (Imm op rd rs1 imm) ≡ true → MakesLong p (Imm op rd rs1 imm)
 unfolding row_for
-long_imm Addi rd rs1 imm p l h = let t = three (is_register rd) (is_register rs1) (is_signed imm 12) h in makes_imm Addi rd rs1 imm p h t.0 t.1 t.2
-long_imm Slti rd rs1 imm p l h = let t = three (is_register rd) (is_register rs1) (is_signed imm 12) h in makes_imm Slti rd rs1 imm p h t.0 t.1 t.2
-long_imm Sltiu rd rs1 imm p l h = let t = three (is_register rd) (is_register rs1) (is_signed imm 12) h in makes_imm Sltiu rd rs1 imm p h t.0 t.1 t.2
-long_imm Xori rd rs1 imm p l h = let t = three (is_register rd) (is_register rs1) (is_signed imm 12) h in makes_imm Xori rd rs1 imm p h t.0 t.1 t.2
-long_imm Ori rd rs1 imm p l h = let t = three (is_register rd) (is_register rs1) (is_signed imm 12) h in makes_imm Ori rd rs1 imm p h t.0 t.1 t.2
-long_imm Andi rd rs1 imm p l h = let t = three (is_register rd) (is_register rs1) (is_signed imm 12) h in makes_imm Andi rd rs1 imm p h t.0 t.1 t.2
 long_imm Slli rd rs1 imm p l h = let t = three (is_register rd) (is_register rs1) (nat_lt imm 32) h in makes_shift Slli rd rs1 imm p h t.0 t.1 t.2
 long_imm Srli rd rs1 imm p l h = let t = three (is_register rd) (is_register rs1) (nat_lt imm 32) h in makes_shift Srli rd rs1 imm p h t.0 t.1 t.2
 long_imm Srai rd rs1 imm p l h = let t = three (is_register rd) (is_register rs1) (nat_lt imm 32) h in makes_shift Srai rd rs1 imm p h t.0 t.1 t.2
+long_imm op rd rs1 imm p l h = let t = three (is_register rd) (is_register rs1) (is_signed imm 12) h in makes_imm op rd rs1 imm p h t.0 t.1 t.2
 
 long_reg : (op : RegOp) (rd rs1 rs2 p : ℕ) → p < 2 ^ 32 → can_be_spelled (Reg op rd rs1 rs2) ≡ true → MakesLong p (Reg op rd rs1 rs2)
 unfolding row_for
 long_reg Add rd rs1 rs2 p l h = makes_reg Add rd rs1 rs2 p h
-long_reg Sub rd rs1 rs2 p l h = makes_reg Sub rd rs1 rs2 p h
-long_reg Sll rd rs1 rs2 p l h = makes_reg Sll rd rs1 rs2 p h
-long_reg Slt rd rs1 rs2 p l h = makes_reg Slt rd rs1 rs2 p h
-long_reg Sltu rd rs1 rs2 p l h = makes_reg Sltu rd rs1 rs2 p h
-long_reg Xor rd rs1 rs2 p l h = makes_reg Xor rd rs1 rs2 p h
-long_reg Srl rd rs1 rs2 p l h = makes_reg Srl rd rs1 rs2 p h
-long_reg Sra rd rs1 rs2 p l h = makes_reg Sra rd rs1 rs2 p h
-long_reg Or rd rs1 rs2 p l h = makes_reg Or rd rs1 rs2 p h
-long_reg And rd rs1 rs2 p l h = makes_reg And rd rs1 rs2 p h
-long_reg Mul rd rs1 rs2 p l h = makes_reg Mul rd rs1 rs2 p h
-long_reg Mulh rd rs1 rs2 p l h = makes_reg Mulh rd rs1 rs2 p h
-long_reg Mulhsu rd rs1 rs2 p l h = makes_reg Mulhsu rd rs1 rs2 p h
-long_reg Mulhu rd rs1 rs2 p l h = makes_reg Mulhu rd rs1 rs2 p h
-long_reg Div rd rs1 rs2 p l h = makes_reg Div rd rs1 rs2 p h
-long_reg Divu rd rs1 rs2 p l h = makes_reg Divu rd rs1 rs2 p h
-long_reg Rem rd rs1 rs2 p l h = makes_reg Rem rd rs1 rs2 p h
-long_reg Remu rd rs1 rs2 p l h = makes_reg Remu rd rs1 rs2 p h
+long_reg op rd rs1 rs2 p l h = makes_reg op rd rs1 rs2 p h
 
 long_csr : (op : CsrOp) (rd source csr p : ℕ) → p < 2 ^ 32 → can_be_spelled (Csr op rd source csr) ≡ true → MakesLong p (Csr op rd source csr)
 unfolding row_for
-long_csr Csrrw rd source csr p l h = makes_csr Csrrw rd source csr p h
-long_csr Csrrs rd source csr p l h = makes_csr Csrrs rd source csr p h
-long_csr Csrrc rd source csr p l h = makes_csr Csrrc rd source csr p h
 long_csr Csrrwi rd source csr p l h = makes_csr_number Csrrwi rd source csr p h
 long_csr Csrrsi rd source csr p l h = makes_csr_number Csrrsi rd source csr p h
 long_csr Csrrci rd source csr p l h = makes_csr_number Csrrci rd source csr p h
+long_csr op rd source csr p l h = makes_csr op rd source csr p h
 
 pub long : (i : Ins) (p : ℕ) → p < 2 ^ 32 → can_be_spelled i ≡ true → MakesLong p i
 unfolding row_for
@@ -341,31 +275,7 @@ stop_row = record { same = refl; sound = refl; rest = λ ws. Err BadOperands; na
 
 pub short_row : (row : CRow) (a b n : ℕ) → fits_row (cins row a b n) ≡ true → IsRow (row_for (ShortKind row) n) (ShortKind row) 30
 unfolding row_for task_named
-short_row CAddi4spn a b n h = record { same = refl; sound = refl; rest = λ ws. Err BadOperands; named = λ ws k. refl }
-short_row CLw a b n h = record { same = refl; sound = refl; rest = λ ws. Err BadOperands; named = λ ws k. refl }
-short_row CSw a b n h = record { same = refl; sound = refl; rest = λ ws. Err BadOperands; named = λ ws k. refl }
 short_row CNop a b zero h = record { same = refl; sound = refl; rest = λ ws. task_or (read_form (form (codes "c.nop") short_signed (ShortKind CNop)) ws) (Err BadOperands); named = λ ws k. refl }
 short_row CNop a b (suc n) h = record { same = refl; sound = refl; rest = λ ws. Err BadOperands; named = λ ws k. named_number n ws k }
-short_row CAddi a b n h = record { same = refl; sound = refl; rest = λ ws. Err BadOperands; named = λ ws k. refl }
-short_row CJal a b n h = record { same = refl; sound = refl; rest = λ ws. Err BadOperands; named = λ ws k. refl }
-short_row CLi a b n h = record { same = refl; sound = refl; rest = λ ws. Err BadOperands; named = λ ws k. refl }
-short_row CAddi16sp a b n h = record { same = refl; sound = refl; rest = λ ws. Err BadOperands; named = λ ws k. refl }
-short_row CLui a b n h = record { same = refl; sound = refl; rest = λ ws. Err BadOperands; named = λ ws k. refl }
-short_row CSrli a b n h = record { same = refl; sound = refl; rest = λ ws. Err BadOperands; named = λ ws k. refl }
-short_row CSrai a b n h = record { same = refl; sound = refl; rest = λ ws. Err BadOperands; named = λ ws k. refl }
-short_row CAndi a b n h = record { same = refl; sound = refl; rest = λ ws. Err BadOperands; named = λ ws k. refl }
-short_row CSub a b n h = record { same = refl; sound = refl; rest = λ ws. Err BadOperands; named = λ ws k. refl }
-short_row CXor a b n h = record { same = refl; sound = refl; rest = λ ws. Err BadOperands; named = λ ws k. refl }
-short_row COr a b n h = record { same = refl; sound = refl; rest = λ ws. Err BadOperands; named = λ ws k. refl }
-short_row CAnd a b n h = record { same = refl; sound = refl; rest = λ ws. Err BadOperands; named = λ ws k. refl }
-short_row CJ a b n h = record { same = refl; sound = refl; rest = λ ws. Err BadOperands; named = λ ws k. refl }
-short_row CBeqz a b n h = record { same = refl; sound = refl; rest = λ ws. Err BadOperands; named = λ ws k. refl }
-short_row CBnez a b n h = record { same = refl; sound = refl; rest = λ ws. Err BadOperands; named = λ ws k. refl }
-short_row CSlli a b n h = record { same = refl; sound = refl; rest = λ ws. Err BadOperands; named = λ ws k. refl }
-short_row CLwsp a b n h = record { same = refl; sound = refl; rest = λ ws. Err BadOperands; named = λ ws k. refl }
-short_row CJr a b n h = record { same = refl; sound = refl; rest = λ ws. Err BadOperands; named = λ ws k. refl }
-short_row CMv a b n h = record { same = refl; sound = refl; rest = λ ws. Err BadOperands; named = λ ws k. refl }
 short_row CEbreak a b n h = subst (λ (k : ℕ). IsRow (row_for (ShortKind CEbreak) k) (ShortKind CEbreak) 30) (sym (no_number n (holds CEbreak a b n h).immediate)) stop_row
-short_row CJalr a b n h = record { same = refl; sound = refl; rest = λ ws. Err BadOperands; named = λ ws k. refl }
-short_row CAdd a b n h = record { same = refl; sound = refl; rest = λ ws. Err BadOperands; named = λ ws k. refl }
-short_row CSwsp a b n h = record { same = refl; sound = refl; rest = λ ws. Err BadOperands; named = λ ws k. refl }
+short_row _ a b n h = record { same = refl; sound = refl; rest = λ ws. Err BadOperands; named = λ ws k. refl }

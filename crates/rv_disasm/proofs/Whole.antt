@@ -27,7 +27,8 @@ use Rattle.rv_disasm.proofs.Sentences.{statement_makes, pieces_of}
 use Rattle.rv_disasm.proofs.TextLines.{AllReadable, lines_again}
 use Rattle.rv_disasm.proofs.Fronts.{Puts, ArePuts, listed_puts}
 use Rattle.rv_disasm.proofs.Passes.{AllFit, Places, run_second, built_by, lines_at, first_passes, second_passes}
-use Rattle.rv_disasm.proofs.Running.{segments_statements, stretch_of, StandBeside, holds_small, comes, contents, adds}
+use Rattle.rv_assembler.specs.Relation.{stretch_of}
+use Rattle.rv_disasm.proofs.Running.{segments_statements, StandBeside, holds_small, comes, contents, adds}
 
 -- ---- the text
 

@@ -1,5 +1,5 @@
 -- The listing of bytes, and the text of an image.
-use Rattle.std.specs.Prelude.{ℕ, ◌<◌, zero, suc, ◌+◌, ◌*◌, ◌%◌, ◌==◌, Bool, true, false, cond, List, [], ◌∷◌, ◌++◌, Option, Some, None}
+use Rattle.std.specs.Prelude.{ℕ, zero, suc, ◌+◌, ◌-◌, ◌*◌, ◌%◌, ◌==◌, Bool, true, false, cond, List, [], ◌∷◌, ◌++◌, Option, Some, None}
 use Rattle.std.specs.List.{flat_map, AllByRecursion}
 use Rattle.asm_text.specs.Pieces.{Piece, printed}
 use Rattle.rv_encoding.specs.Rows.{spelled, canonical}
@@ -7,6 +7,7 @@ use Rattle.rvc_encoding.specs.Rows.{spelled16}
 use Rattle.rv_encoding.specs.declared.instruction.Ins.{Ins}
 use Rattle.rvc_encoding.specs.declared.compressed.Cins.{Cins}
 use Rattle.hart_memory.specs.Image.{SegmentView, ImageView}
+use Rattle.hart_memory.specs.Memory.{AreBytes}
 use Rattle.rv_disasm.specs.Printing.{line_pieces}
 use Rattle.rv_disasm.specs.declared.statement.Statement.{Statement}
 use Rattle.rv_disasm.specs.declared.statement.Statement.TheVariants.{Entry, Org, Byte, Half, Word, Long, Short}
@@ -55,13 +56,7 @@ size_of (Short c) = 2
 
 -- how many bytes follow its first
 abbrev pub further : Statement → ℕ
-further (Entry e) = 0
-further (Org p) = 0
-further (Byte b) = 0
-further (Half h) = 1
-further (Word w) = 3
-further (Long i) = 3
-further (Short c) = 1
+further s = size_of s - 1
 
 -- the statements of bytes, of which so many belong to the statement before
 abbrev pub listed : ℕ → List ℕ → List Statement
@@ -76,11 +71,7 @@ line_text ps = printed ps ++ 10 ∷ []
 abbrev pub behind : Statement → ℕ → ℕ
 behind (Entry e) place = place
 behind (Org p) place = p
-behind (Byte b) place = place + 1
-behind (Half h) place = place + 2
-behind (Word w) place = place + 4
-behind (Long i) place = place + 4
-behind (Short c) place = place + 2
+behind s place = place + size_of s
 
 -- the lines of statements from a place on
 abbrev pub lines_from : ℕ → List Statement → List (List Piece)
@@ -118,8 +109,6 @@ image_text image = entry_text image.start ++ flat_map segment_text image.segment
 
 -- ---- bytes
 
-abbrev pub AreBytes : List ℕ → Type 0
-AreBytes bytes = AllByRecursion (λ b. b < 256) bytes
-
+-- each segment holds bytes
 abbrev pub AreAllBytes : List SegmentView → Type 0
 AreAllBytes segments = AllByRecursion (λ s. AreBytes s.content) segments

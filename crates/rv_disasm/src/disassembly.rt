@@ -3,8 +3,9 @@ ghost use Rattle.std.specs.Prelude.{◌≡◌, ◌++◌, ◌∷◌, [], ◌+◌,
 ghost use Rattle.std.specs.List.{flat_map};
 ghost use Rattle.hart_memory.specs.Place.{holds};
 ghost use Rattle.hart_memory.specs.Image.{AreSound};
+ghost use Rattle.hart_memory.specs.Memory.{AreBytes};
 ghost use Rattle.rv_assembler.specs.Source.{assembled};
-ghost use Rattle.rv_disasm.specs.Listing.{heading, listing, segment_text, image_text, AreBytes};
+ghost use Rattle.rv_disasm.specs.Listing.{heading, listing, segment_text, image_text};
 
 use crate::listing::{push_line, push_listing};
 use crate::statement::Statement;

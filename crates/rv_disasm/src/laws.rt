@@ -3,8 +3,9 @@ ghost use Rattle.std.specs.Prelude.{◌≡◌, ◌<◌, ◌≤◌, ◌^◌, ◌+
 ghost use Rattle.std.specs.List.{AllByRecursion};
 ghost use Rattle.hart_memory.specs.Place.{holds};
 ghost use Rattle.hart_memory.specs.Image.{ImageView, AreSound};
+ghost use Rattle.hart_memory.specs.Memory.{AreBytes};
 ghost use Rattle.rv_assembler.specs.Source.{assembled};
-ghost use Rattle.rv_disasm.specs.Listing.{heading, listing, image_text, AreBytes, AreAllBytes};
+ghost use Rattle.rv_disasm.specs.Listing.{heading, listing, image_text, AreAllBytes};
 
 /// The listing of bytes in one memory, below its entry and its place, is assembled to these bytes alone.
 #[tactic(auto, using(crate::proofs::Lengths::listing_returns))]

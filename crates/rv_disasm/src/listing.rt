@@ -1,9 +1,10 @@
 // The listing of bytes.
 ghost use Rattle.std.specs.Prelude.{◌≡◌, ◌++◌, ◌+◌, ◌*◌, ◌<◌, ◌≤◌, ◌^◌, [], length, drop, slice_index, true, OnOk};
+ghost use Rattle.hart_memory.specs.Memory.{AreBytes};
 ghost use Rattle.rvc_encoding.specs.Rows.{spelled16};
 ghost use Rattle.rv_disasm.specs.Fitting.{statement_fits};
 ghost use Rattle.rv_disasm.specs.Printing.{line_pieces};
-ghost use Rattle.rv_disasm.specs.Listing.{short_or, word_statement, first_statement, size_of, line_text, listing, AreBytes};
+ghost use Rattle.rv_disasm.specs.Listing.{short_or, word_statement, first_statement, size_of, line_text, listing};
 
 use crate::printing::put_statement;
 use crate::statement::Statement;
