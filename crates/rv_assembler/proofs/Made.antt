@@ -18,7 +18,7 @@ use Rattle.asm_forms.specs.declared.asm_why.AsmWhy.TheVariants.{BadOperands, Out
 use Rattle.asm_forms.proofs.Fitting.{reading_fits, Positive, positive}
 use Rattle.rv_assembler.specs.Lines.{lines_of}
 use Rattle.rv_assembler.specs.Symbols.{Symbol, address_of, defined_by, with_label}
-use Rattle.rv_assembler.specs.Laying.{Laid, nothing_laid, laid, shut, is_full, grown, grow, are_apart, overlaps, Ends}
+use Rattle.rv_assembler.specs.Laying.{Laid, laid, shut, is_full, grown, grow, are_apart, overlaps, Ends}
 use Rattle.rv_assembler.specs.Placing.{Follows, AllFollow}
 use Rattle.rv_assembler.specs.Source.{◌>>=◌, Refusal, refuse, at_line, pass, Passed, nothing_passed, laid_by, with_laying, first_read, first_line, Built, nothing_built, resolved, reached, with_operation, second_by, task_of, second_line, Program, image_of, ended, of_lines, assembled}
 use Rattle.rv_assembler.specs.Relation.{IsLabelled, IsDone, extent_by, AreLines, label_in, labels_in, entry_kind, entry_in, entries, extents, stretches, filled, stretch_of, IsSource}
@@ -420,11 +420,11 @@ source_made source p h =
     made ∙ ap (λ (q : Program). Ok q) (sym (one_choice source p x.0 x.2 h (source_told source x.0 made)))
 
 -- what both passes give is of the source
-pub passes_made : (source : List ℕ) (l : Laid) (ss : List Symbol) (c : Built) (s : Passed) (b : Built) (image : ImageView) → l ≡ nothing_laid → ss ≡ [] → c ≡ nothing_built → length source ≤ MAX_SOURCE
-    → pass first_line (lines_of source) 1 (record { laying = l; symbols = ss }) ≡ Ok s → pass (second_line s.symbols) (lines_of source) 1 c ≡ Ok b → s.laying.entered ≡ true → image ≡ image_of s.laying b
+pub passes_made : (source : List ℕ) (start : Passed) (c : Built) (s : Passed) (b : Built) (image : ImageView) → start ≡ nothing_passed → c ≡ nothing_built → length source ≤ MAX_SOURCE
+    → pass first_line (lines_of source) 1 start ≡ Ok s → pass (second_line s.symbols) (lines_of source) 1 c ≡ Ok b → s.laying.entered ≡ true → image ≡ image_of s.laying b
     → IsSource source (record { image = image; symbols = s.symbols })
-passes_made source l ss c s b image e f g short one two entered is =
-    let first : pass first_line (lines_of source) 1 nothing_passed ≡ Ok s = ap (λ (x : Laid). pass first_line (lines_of source) 1 (record { laying = x; symbols = [] })) (sym e) ∙ ap (λ (x : List Symbol). pass first_line (lines_of source) 1 (record { laying = l; symbols = x })) (sym f) ∙ one in
+passes_made source start c s b image f g short one two entered is =
+    let first : pass first_line (lines_of source) 1 nothing_passed ≡ Ok s = ap (λ (x : Passed). pass first_line (lines_of source) 1 x) (sym f) ∙ one in
     let second : pass (second_line s.symbols) (lines_of source) 1 nothing_built ≡ Ok b = ap (λ x. pass (second_line s.symbols) (lines_of source) 1 x) (sym g) ∙ two in
     let p : Program = record { image = image_of s.laying b; symbols = s.symbols } in
     let all : of_lines (lines_of source) ≡ Ok p = bind_is (pass first_line (lines_of source) 1 nothing_passed) _ s _ first (bind_is (pass (second_line s.symbols) (lines_of source) 1 nothing_built) _ b _ second (ends_so s b entered)) in

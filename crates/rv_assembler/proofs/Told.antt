@@ -3,9 +3,9 @@ use Rattle.std.proofs.Common.{◌≡◌, ◌≢◌, ℕ, zero, suc, ◌+◌, ◌
 use Rattle.std.specs.Prelude.{◌&&◌, eqb, nat_lt, option_to_list}
 use Rattle.std.proofs.lemmas.List.{append-nil}
 use Rattle.std.proofs.lemmas.Bool.Decides.{nat_tests}
-use lib.Pointwise.{pointwise}
 use Rattle.std.proofs.lemmas.List.Quantifiers.{all_pairs_push}
 use Rattle.hart_memory.specs.Image.{AreSound}
+use Rattle.asm_text.specs.Names.{is_same_text}
 use Rattle.asm_fields.specs.Operands.{Operands}
 use Rattle.asm_forms.specs.Operations.{made, operation_fits, extent_of, bytes_of}
 use Rattle.asm_forms.specs.Statements.{Task, Reading, reading}
@@ -39,9 +39,9 @@ both_true : (a b : Bool) → a ≡ true → b ≡ true → (a && b) ≡ true
 both_true true b e f = f
 both_true false b e f = cc
 
-pub same_text : (t : List ℕ) → pointwise eqb t t ≡ true
+pub same_text : (t : List ℕ) → is_same_text t t ≡ true
 same_text [] = refl
-same_text (b ∷ bs) = both_true (eqb b b) (pointwise eqb bs bs) (same_number b) (same_text bs)
+same_text (b ∷ bs) = both_true (eqb b b) (is_same_text bs bs) (same_number b) (same_text bs)
 
 found_by : (b : Bool) (x : ℕ) (r s : Option ℕ) (a : ℕ) → (r ≡ Some a → s ≡ Some a) → cond b (Some x) r ≡ Some a → cond b (Some x) s ≡ Some a
 found_by true x r s a f e = e
@@ -50,7 +50,7 @@ found_by false x r s a f e = f e
 -- what is found is found among more symbols
 address_more : (ss more : List Symbol) (t : List ℕ) (a : ℕ) → address_of ss t ≡ Some a → address_of (ss ++ more) t ≡ Some a
 address_more [] more t a e = cc
-address_more (s ∷ ss) more t a e = found_by (pointwise eqb t s.name) s.address (address_of ss t) (address_of (ss ++ more) t) a (address_more ss more t a) e
+address_more (s ∷ ss) more t a e = found_by (is_same_text t s.name) s.address (address_of ss t) (address_of (ss ++ more) t) a (address_more ss more t a) e
 
 new_by : (b : Bool) (x : ℕ) (r s : Option ℕ) (a : ℕ) → (r ≡ None → s ≡ Some a) → cond b (Some x) r ≡ None → cond b (Some x) s ≡ Some a
 new_by true x r s a f e = cc
@@ -62,8 +62,8 @@ taken_test false a e = cc
 
 -- a label that was not there is found once it is added
 address_new : (ss : List Symbol) (t : List ℕ) (a : ℕ) → address_of ss t ≡ None → address_of (ss ++ record { name = t; address = a } ∷ []) t ≡ Some a
-address_new [] t a e = taken_test (pointwise eqb t t) a (same_text t)
-address_new (s ∷ ss) t a e = new_by (pointwise eqb t s.name) s.address (address_of ss t) (address_of (ss ++ record { name = t; address = a } ∷ []) t) a (address_new ss t a) e
+address_new [] t a e = taken_test (is_same_text t t) a (same_text t)
+address_new (s ∷ ss) t a e = new_by (is_same_text t s.name) s.address (address_of ss t) (address_of (ss ++ record { name = t; address = a } ∷ []) t) a (address_new ss t a) e
 
 none_by : (b : Bool) (x : ℕ) (r : Option ℕ) → cond b (Some x) r ≡ None → (b ≡ false) × (r ≡ None)
 none_by true x r e = cc
@@ -73,14 +73,14 @@ none_by false x r e = (refl, e)
 unlike : (ss : List Symbol) (t : List ℕ) → address_of ss t ≡ None → (k : ℕ) (d : List ℕ) → k < length (map (λ (s : Symbol). s.name) ss) → get_or (map (λ (s : Symbol). s.name) ss) k d ≢ t
 unlike [] t e k d lt = absurd (omega arith)
 unlike (s ∷ ss) t e zero d lt = λ same.
-    let found : pointwise eqb t s.name ≡ true = ap (λ u. pointwise eqb t u) same ∙ same_text t in
-    let missed : pointwise eqb t s.name ≡ false = (none_by (pointwise eqb t s.name) s.address (address_of ss t) e).0 in
-    true_or_false (pointwise eqb t s.name) found missed
+    let found : is_same_text t s.name ≡ true = ap (λ u. is_same_text t u) same ∙ same_text t in
+    let missed : is_same_text t s.name ≡ false = (none_by (is_same_text t s.name) s.address (address_of ss t) e).0 in
+    true_or_false (is_same_text t s.name) found missed
   where
     true_or_false : (b : Bool) → b ≡ true → b ≡ false → ⊥
     true_or_false true e f = cc
     true_or_false false e f = cc
-unlike (s ∷ ss) t e (suc k) d lt = unlike ss t (none_by (pointwise eqb t s.name) s.address (address_of ss t) e).1 k d (omega arith)
+unlike (s ∷ ss) t e (suc k) d lt = unlike ss t (none_by (is_same_text t s.name) s.address (address_of ss t) e).1 k d (omega arith)
 
 -- no name is there twice
 abbrev pub AreOnce : List Symbol → Type 0

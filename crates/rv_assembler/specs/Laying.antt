@@ -21,7 +21,8 @@ pub record Laid : Type 0 where
 abbrev pub nothing_laid : Laid
 nothing_laid = record { place = 0; growing = None; closed = []; entered = false }
 
--- two stretches have no byte in common
+-- Two stretches have no byte in common. That is `is_apart` of hart_memory, which asks for a segment with its bytes: a
+-- stretch has none yet. `stretches_are_apart_as_segments` says that both are the same.
 abbrev pub are_apart : Stretch → Stretch → Bool
 are_apart t s = nat_le (t.base + t.size) s.base || nat_le (s.base + s.size) t.base
 

@@ -1,9 +1,9 @@
 -- Labels with their addresses.
-use Rattle.std.specs.Prelude.{ℕ, List, [], ◌∷◌, ◌++◌, Option, Some, None, cond, eqb, string_bytes}
+use Rattle.std.specs.Prelude.{ℕ, List, [], ◌∷◌, ◌++◌, Option, Some, None, cond, string_bytes}
 use Rattle.std.specs.declared.string.String.{String}
 use Rattle.std.specs.declared.result.Result.{Result}
 use Rattle.std.specs.declared.result.Result.TheVariants.{Ok, Err}
-use lib.Pointwise.{pointwise}
+use Rattle.asm_text.specs.Names.{is_same_text}
 use Rattle.asm_forms.specs.declared.asm_why.AsmWhy.{AsmWhy}
 use Rattle.asm_forms.specs.declared.asm_why.AsmWhy.TheVariants.{DoubleLabel}
 
@@ -18,7 +18,7 @@ symbol_of p = record { name = string_bytes p.0; address = p.1 }
 -- the address of a label, or None where no line defines it
 abbrev pub address_of : List Symbol → List ℕ → Option ℕ
 address_of [] t = None
-address_of (s ∷ ss) t = cond (pointwise eqb t s.name) (Some s.address) (address_of ss t)
+address_of (s ∷ ss) t = cond (is_same_text t s.name) (Some s.address) (address_of ss t)
 
 abbrev pub defined_by : Option ℕ → List ℕ → ℕ → List Symbol → Result (List Symbol) AsmWhy
 defined_by None t p ss = Ok (ss ++ record { name = t; address = p } ∷ [])

@@ -6,6 +6,7 @@ ghost use Rattle.asm_fields.specs.Seen.{seen_number};
 ghost use Rattle.asm_forms.specs.Seen.{seen_task, seen_reading, seen_task_option};
 ghost use Rattle.rv_assembler.specs.Stops.{Becomes};
 
+use crate::line_work::LineWork;
 use crate::stop::Stop;
 use crate::symbols::Symbols;
 use asm_fields::Number;
@@ -130,14 +131,18 @@ impl Building {
         self.entry = entry_by(&made, self.entry);
         Ok(())
     }
+}
 
-    /// Builds a line. After an error nothing is said of what was built.
+impl LineWork for Building {
+    type Context = Symbols;
+
+    ghost step = { second_line };
+
+    // The bytes of a line.
     #[tactic(auto, unfolding(crate::specs::Source::second_line))]
-    pub(crate) fn build_line(&mut self, symbols: &Symbols, line: &[u8]) -> Result<(), Stop>
-        ensures { Becomes result self.new (second_line symbols.now self.old line.now) }
-    {
+    fn do_line(&mut self, context: &Symbols, line: &[u8]) -> Result<(), Stop> {
         match task_of(read_line(line)) {
-            Some(task) => self.build(symbols, task),
+            Some(task) => self.build(context, task),
             None => Ok(()),
         }
     }

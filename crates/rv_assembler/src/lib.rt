@@ -8,6 +8,7 @@ mod building;
 mod cutting;
 pub mod laws;
 mod laying;
+mod line_work;
 mod lines;
 mod passing;
 mod stop;

@@ -1,15 +1,32 @@
 // The first pass: labels and places.
 ghost use Rattle.std.specs.Prelude.{◌≡◌, option_map};
 ghost use Rattle.rv_assembler.specs.Symbols.{with_label};
-ghost use Rattle.rv_assembler.specs.Source.{first_line, laid_by};
+ghost use Rattle.rv_assembler.specs.Source.{first_line, laid_by, nothing_passed};
 ghost use Rattle.asm_forms.specs.Seen.{seen_task_option};
 ghost use Rattle.rv_assembler.specs.Stops.{Becomes};
 
 use crate::laying::Laying;
+use crate::line_work::LineWork;
 use crate::stop::Stop;
 use crate::symbols::Symbols;
 use asm_forms::{AsmWhy, Task, extent_of, read_line};
 use std::alloc::Global;
+use std::marker::Model;
+
+/// Where the lines so far lie, and their labels.
+#[derive(Drop)]
+pub(crate) struct Passing {
+    pub(crate) laying: Laying,
+    pub(crate) symbols: Symbols,
+}
+
+impl Model for Passing {
+    ghost use Rattle.rv_assembler.specs.Source.{Passed};
+
+    ghost Value = { Passed };
+
+    ghost view = { λ p. record { laying = p.laying; symbols = p.symbols } };
+}
 
 fn define_label(
     alloc: Global,
@@ -40,23 +57,33 @@ fn lay_task(laying: &mut Laying, task: Option<Task>) -> Result<(), Stop>
     }
 }
 
-/// Takes a line: its label, and its place. After an error nothing is said of what was taken.
-#[tactic(auto, unfolding(crate::specs::Source::first_line))]
-pub(crate) fn pass_line(
-    alloc: Global,
-    line: &[u8],
-    laying: &mut Laying,
-    symbols: &mut Symbols,
-) -> Result<(), Stop>
-    ensures { Becomes result (record { laying = laying.new; symbols = symbols.new }) (first_line (record { laying = laying.old; symbols = symbols.old }) line.now) }
-{
-    let read = match read_line(line) {
-        Ok(read) => read,
-        Err(why) => return Err(Stop::Refused(why)),
-    };
-    define_label(alloc, symbols, read.label, laying.place)?;
-    match read.statement {
-        Ok(task) => lay_task(laying, task),
-        Err(why) => Err(Stop::Refused(why)),
+impl Passing {
+    pub(crate) fn new(alloc: Global) -> Passing
+        ensures { result ≡ nothing_passed }
+    {
+        Passing {
+            laying: Laying::new(alloc),
+            symbols: Symbols::new(alloc),
+        }
+    }
+}
+
+impl LineWork for Passing {
+    type Context = Global;
+
+    ghost step = { λ alloc. first_line };
+
+    // The label of a line, and its place.
+    #[tactic(auto, unfolding(crate::specs::Source::first_line))]
+    fn do_line(&mut self, context: &Global, line: &[u8]) -> Result<(), Stop> {
+        let read = match read_line(line) {
+            Ok(read) => read,
+            Err(why) => return Err(Stop::Refused(why)),
+        };
+        define_label(*context, &mut self.symbols, read.label, self.laying.place)?;
+        match read.statement {
+            Ok(task) => lay_task(&mut self.laying, task),
+            Err(why) => Err(Stop::Refused(why)),
+        }
     }
 }

@@ -6,7 +6,8 @@ use Rattle.std.proofs.lemmas.List.Splits.{slice_split_at}
 use Rattle.std.proofs.lemmas.Bool.{and_parts, not-true, and_right, cond-false}
 use Rattle.asm_text.specs.Pieces.{Piece, printed, AreReadable, all_pass, is_inline}
 use Rattle.asm_text.proofs.Inline.{one_line}
-use Rattle.rv_assembler.specs.Lines.{is_feed, ends_in_return, without_return, lines_of}
+use Rattle.hart_words.specs.Lines.{is_feed}
+use Rattle.rv_assembler.specs.Lines.{ends_in_return, without_return, lines_of}
 use Rattle.rv_disasm.specs.Listing.{line_text}
 
 inline_at : (t : List ℕ) (k : ℕ) → all_pass is_inline t ≡ true → k < length t → is_inline (get_or t k 0) ≡ true

@@ -1,4 +1,4 @@
-use Rattle.std.proofs.Common.{subst, Result, Ok}
+use Rattle.std.proofs.Common.{subst, Result}
 use Rattle.rv_assembler.specs.Source.{Program, Refusal}
 use Rattle.rv_assembler.specs.Answers.{Gives}
 use Rattle.rv_assembler.proofs.Made.{source_made}
