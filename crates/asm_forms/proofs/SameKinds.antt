@@ -3,21 +3,21 @@ use Rattle.std.proofs.Common.{◌≡◌, refl, ap}
 use Rattle.std.specs.Prelude.{◌==◌, ◌&&◌}
 use Rattle.rv_encoding.specs.Words.{branch_match, load_match, store_match, imm_match, reg_match, csr_match}
 use Rattle.rv_encoding.specs.declared.operations.BranchOp.{BranchOp}
-use Rattle.rv_encoding.specs.declared.operations.BranchOp.TheVariants.{Beq, Bne, Blt, Bge, Bltu, Bgeu}
+use Rattle.rv_encoding.specs.declared.operations.BranchOp.TheVariants.{Beq}
 use Rattle.rv_encoding.specs.declared.operations.LoadOp.{LoadOp}
-use Rattle.rv_encoding.specs.declared.operations.LoadOp.TheVariants.{Lb, Lh, Lw, Lbu, Lhu}
+use Rattle.rv_encoding.specs.declared.operations.LoadOp.TheVariants.{Lb}
 use Rattle.rv_encoding.specs.declared.operations.StoreOp.{StoreOp}
-use Rattle.rv_encoding.specs.declared.operations.StoreOp.TheVariants.{Sb, Sh, Sw}
+use Rattle.rv_encoding.specs.declared.operations.StoreOp.TheVariants.{Sb}
 use Rattle.rv_encoding.specs.declared.operations.ImmOp.{ImmOp}
-use Rattle.rv_encoding.specs.declared.operations.ImmOp.TheVariants.{Addi, Slti, Sltiu, Xori, Ori, Andi, Slli, Srli, Srai}
+use Rattle.rv_encoding.specs.declared.operations.ImmOp.TheVariants.{Addi}
 use Rattle.rv_encoding.specs.declared.operations.RegOp.{RegOp}
-use Rattle.rv_encoding.specs.declared.operations.RegOp.TheVariants.{Add, Sub, Sll, Slt, Sltu, Xor, Srl, Sra, Or, And, Mul, Mulh, Mulhsu, Mulhu, Div, Divu, Rem, Remu}
+use Rattle.rv_encoding.specs.declared.operations.RegOp.TheVariants.{Add}
 use Rattle.rv_encoding.specs.declared.operations.CsrOp.{CsrOp}
-use Rattle.rv_encoding.specs.declared.operations.CsrOp.TheVariants.{Csrrw, Csrrs, Csrrc, Csrrwi, Csrrsi, Csrrci}
+use Rattle.rv_encoding.specs.declared.operations.CsrOp.TheVariants.{Csrrw}
 use Rattle.rv_encoding.specs.declared.instruction.Ins.{Ins}
 use Rattle.rv_encoding.specs.declared.instruction.Ins.TheVariants.{Lui as LuiIns, Auipc as AuipcIns, Jal as JalIns, Jalr as JalrIns, Branch as BranchIns, Load as LoadIns, Store as StoreIns, Imm as ImmIns, Reg as RegIns, Fence as FenceIns, Ecall, Ebreak, Mret, Wfi, Csr as CsrIns}
 use Rattle.rvc_encoding.specs.declared.row.CRow.{CRow}
-use Rattle.rvc_encoding.specs.declared.row.CRow.TheVariants.{Addi4spn as CAddi4spn, Lw as CLw, Sw as CSw, Nop as CNop, Addi as CAddi, Jal as CJal, Li as CLi, Addi16sp as CAddi16sp, Lui as CLui, Srli as CSrli, Srai as CSrai, Andi as CAndi, Sub as CSub, Xor as CXor, Or as COr, And as CAnd, J as CJ, Beqz as CBeqz, Bnez as CBnez, Slli as CSlli, Lwsp as CLwsp, Jr as CJr, Mv as CMv, Ebreak as CEbreak, Jalr as CJalr, Add as CAdd, Swsp as CSwsp}
+use Rattle.rvc_encoding.specs.declared.row.CRow.TheVariants.{Addi4spn as CAddi4spn}
 use Rattle.rv_encoding.specs.contracts.operations.BranchOpPartialEq.TheImpl as branches
 use Rattle.rv_encoding.specs.contracts.operations.LoadOpPartialEq.TheImpl as loads
 use Rattle.rv_encoding.specs.contracts.operations.StoreOpPartialEq.TheImpl as stores
@@ -31,100 +31,40 @@ use Rattle.asm_forms.specs.Kinds.{is_same_instruction, is_same_row, is_same_kind
 use Rattle.asm_forms.specs.declared.kind.Kind.{Kind}
 use Rattle.asm_forms.specs.declared.kind.Kind.TheVariants.{Org, Entry, Byte, Half, Word, Zero, Lui, Auipc, Jal, Jalr, Branch, Load, Store, Imm, Reg, Fence, Csr, Fixed, Short, Pair}
 
--- Each clause has the first operation behind it, so that the last line goes over all pairs.
+-- The first two lines of a lemma make its cases those of both operations, and the last is one case for each pair.
 same_branch : (a b : BranchOp) → branches.ghosts.eq a b ≡ (branch_match a == branch_match b)
 same_branch Beq Beq = refl
-same_branch Bne Beq = refl
-same_branch Blt Beq = refl
-same_branch Bge Beq = refl
-same_branch Bltu Beq = refl
-same_branch Bgeu Beq = refl
+same_branch _ Beq = refl
 same_branch _ _ = refl
 
 same_load : (a b : LoadOp) → loads.ghosts.eq a b ≡ (load_match a == load_match b)
 same_load Lb Lb = refl
-same_load Lh Lb = refl
-same_load Lw Lb = refl
-same_load Lbu Lb = refl
-same_load Lhu Lb = refl
+same_load _ Lb = refl
 same_load _ _ = refl
 
 same_store : (a b : StoreOp) → stores.ghosts.eq a b ≡ (store_match a == store_match b)
 same_store Sb Sb = refl
-same_store Sh Sb = refl
-same_store Sw Sb = refl
+same_store _ Sb = refl
 same_store _ _ = refl
 
 same_imm : (a b : ImmOp) → imms.ghosts.eq a b ≡ (imm_match a == imm_match b)
 same_imm Addi Addi = refl
-same_imm Slti Addi = refl
-same_imm Sltiu Addi = refl
-same_imm Xori Addi = refl
-same_imm Ori Addi = refl
-same_imm Andi Addi = refl
-same_imm Slli Addi = refl
-same_imm Srli Addi = refl
-same_imm Srai Addi = refl
+same_imm _ Addi = refl
 same_imm _ _ = refl
 
 same_reg : (a b : RegOp) → regs.ghosts.eq a b ≡ (reg_match a == reg_match b)
 same_reg Add Add = refl
-same_reg Sub Add = refl
-same_reg Sll Add = refl
-same_reg Slt Add = refl
-same_reg Sltu Add = refl
-same_reg Xor Add = refl
-same_reg Srl Add = refl
-same_reg Sra Add = refl
-same_reg Or Add = refl
-same_reg And Add = refl
-same_reg Mul Add = refl
-same_reg Mulh Add = refl
-same_reg Mulhsu Add = refl
-same_reg Mulhu Add = refl
-same_reg Div Add = refl
-same_reg Divu Add = refl
-same_reg Rem Add = refl
-same_reg Remu Add = refl
+same_reg _ Add = refl
 same_reg _ _ = refl
 
 same_csr : (a b : CsrOp) → accesses.ghosts.eq a b ≡ (csr_match a == csr_match b)
 same_csr Csrrw Csrrw = refl
-same_csr Csrrs Csrrw = refl
-same_csr Csrrc Csrrw = refl
-same_csr Csrrwi Csrrw = refl
-same_csr Csrrsi Csrrw = refl
-same_csr Csrrci Csrrw = refl
+same_csr _ Csrrw = refl
 same_csr _ _ = refl
 
 same_row : (a b : CRow) → rows.ghosts.eq a b ≡ is_same_row a b
 same_row CAddi4spn CAddi4spn = refl
-same_row CLw CAddi4spn = refl
-same_row CSw CAddi4spn = refl
-same_row CNop CAddi4spn = refl
-same_row CAddi CAddi4spn = refl
-same_row CJal CAddi4spn = refl
-same_row CLi CAddi4spn = refl
-same_row CAddi16sp CAddi4spn = refl
-same_row CLui CAddi4spn = refl
-same_row CSrli CAddi4spn = refl
-same_row CSrai CAddi4spn = refl
-same_row CAndi CAddi4spn = refl
-same_row CSub CAddi4spn = refl
-same_row CXor CAddi4spn = refl
-same_row COr CAddi4spn = refl
-same_row CAnd CAddi4spn = refl
-same_row CJ CAddi4spn = refl
-same_row CBeqz CAddi4spn = refl
-same_row CBnez CAddi4spn = refl
-same_row CSlli CAddi4spn = refl
-same_row CLwsp CAddi4spn = refl
-same_row CJr CAddi4spn = refl
-same_row CMv CAddi4spn = refl
-same_row CEbreak CAddi4spn = refl
-same_row CJalr CAddi4spn = refl
-same_row CAdd CAddi4spn = refl
-same_row CSwsp CAddi4spn = refl
+same_row _ CAddi4spn = refl
 same_row _ _ = refl
 
 same_instruction : (a b : Ins) → instructions.ghosts.eq a b ≡ is_same_instruction a b
