@@ -8,11 +8,12 @@ use Rattle.tool_frame.specs.Plan.{Makes}
 use Rattle.tool_frame.specs.Answers.{Reaches}
 use Rattle.tool_frame.specs.Code.{OfCommand, OfFile, origin_of}
 use Rattle.tool_frame.specs.declared.status.Status.{Status}
-use Rattle.clic_tool.specs.Bench.{Bench}
-use Rattle.clic_tool.specs.Chain.{ChainWords, taken_at, unless_taken, slot_plan, chain_due, chain_left, chain_made, status_of, chain_plan}
-use Rattle.clic_tool.specs.Order.{Order, Chains}
-use Rattle.clic_tool.specs.RunCauses.{PassesFiles}
-use Rattle.clic_tool.proofs.TwoFiles.{both_passed}
+use Rattle.tool_work.specs.Bench.{Bench}
+use Rattle.tool_words.specs.Chain.{ChainWords}
+use Rattle.tool_work.specs.Chain.{taken_at, unless_taken, slot_plan, chain_due, chain_left, chain_made, status_of, chain_plan}
+use Rattle.tool_words.specs.Order.{Order, Chains}
+use Rattle.tool_work.specs.Files.{PassesFiles}
+use Rattle.tool_work.proofs.TwoFiles.{both_passed}
 
 -- the chain was made, and ended with that status
 pub record ChainedSo (order : Option Order) (shelf shelf' : ShelfView) (s : Status) : Type 0 where

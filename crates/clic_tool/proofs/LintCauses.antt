@@ -18,19 +18,22 @@ use Rattle.tool_frame.specs.declared.status.Status.{Status}
 use Rattle.tool_frame.specs.declared.status.Status.TheVariants.{Done, Usage, Rejected}
 use Rattle.tool_frame.proofs.Fits.{IsAtOnce}
 use Rattle.tool_frame.proofs.Causes.{settled_own, never, passed_on}
-use Rattle.clic_tool.specs.Bench.{Bench, empty_bench}
-use Rattle.clic_tool.specs.Files.{image_limit, image_read, image_stage}
-use Rattle.clic_tool.specs.Run.{run_made, run_plan, status_of as run_status}
-use Rattle.clic_tool.specs.Chain.{chain_made, chain_plan, status_of as chain_status}
-use Rattle.clic_tool.specs.Monitor.{monitor_plan}
-use Rattle.clic_tool.specs.Assemble.{assemble_plan}
-use Rattle.clic_tool.specs.Disassemble.{disassemble_plan}
-use Rattle.clic_tool.specs.Mem.{mem_plan}
-use Rattle.clic_tool.specs.Unmem.{unmem_plan}
-use Rattle.clic_tool.specs.Lint.{LintWords, lint_made, lint_due, lint_plan, status_of as verdict_status}
-use Rattle.clic_tool.specs.Bound.{BoundWords, bound_made, bound_due, bound_plan, status_of as bound_status}
-use Rattle.clic_tool.specs.Gen.{gen_decides, gen_plan}
-use Rattle.clic_tool.specs.Order.{Order, Runs, Chains, Monitors, Gens, Assembles, Disassembles, Mems, Unmems, Lints, Bounds, plan_of}
+use Rattle.tool_work.specs.Bench.{Bench, empty_bench}
+use Rattle.tool_work.specs.Files.{image_limit, image_read, image_stage}
+use Rattle.tool_work.specs.Run.{run_made, run_plan, status_of as run_status}
+use Rattle.tool_work.specs.Chain.{chain_made, chain_plan, status_of as chain_status}
+use Rattle.tool_work.specs.Monitor.{monitor_plan}
+use Rattle.tool_work.specs.Assemble.{assemble_plan}
+use Rattle.tool_work.specs.Disassemble.{disassemble_plan}
+use Rattle.tool_work.specs.Mem.{mem_plan}
+use Rattle.tool_work.specs.Unmem.{unmem_plan}
+use Rattle.tool_words.specs.Lint.{LintWords}
+use Rattle.tool_work.specs.Lint.{lint_made, lint_due, lint_plan, status_of as verdict_status}
+use Rattle.tool_words.specs.Bound.{BoundWords}
+use Rattle.tool_work.specs.Bound.{bound_made, bound_due, bound_plan, status_of as bound_status}
+use Rattle.tool_work.specs.Gen.{gen_decides, gen_plan}
+use Rattle.tool_words.specs.Order.{Order, Runs, Chains, Monitors, Gens, Assembles, Disassembles, Mems, Unmems, Lints, Bounds}
+use Rattle.clic_tool.specs.Plan.{plan_of}
 use Rattle.clic_tool.specs.LintCauses.{LintedTo, BoundTo, IsYes, IsNo, IsBounded, IsRefused}
 use Rattle.clic_tool.proofs.RunCauses.{run_ran}
 use Rattle.clic_tool.proofs.GenCauses.{gen_ran}

@@ -12,10 +12,12 @@ use Rattle.tool_frame.specs.Answers.{EndsAs, Passes, Reaches, FollowsWith}
 use Rattle.tool_frame.specs.declared.status.Status.{Status}
 use Rattle.tool_frame.specs.declared.status.Status.TheVariants.{Done, SinkFailed, Memory}
 use Rattle.tool_frame.proofs.Causes.{Passed}
-use Rattle.clic_tool.specs.Bench.{Bench, empty_bench}
-use Rattle.clic_tool.specs.Files.{image_limit, image_stage, script_limit, script_stage}
-use Rattle.clic_tool.specs.Monitor.{MonitorWords, monitor_due, script_plan, monitor_plan}
-use Rattle.clic_tool.specs.Order.{Order, Monitors, plan_of}
+use Rattle.tool_work.specs.Bench.{Bench, empty_bench}
+use Rattle.tool_work.specs.Files.{image_limit, image_stage, script_limit, script_stage}
+use Rattle.tool_words.specs.Monitor.{MonitorWords}
+use Rattle.tool_work.specs.Monitor.{monitor_due, script_plan, monitor_plan}
+use Rattle.tool_words.specs.Order.{Order, Monitors}
+use Rattle.clic_tool.specs.Plan.{plan_of}
 use Rattle.clic_tool.specs.MonitorCauses.{WritesSome, WantsInScript}
 
 -- the command stopped before its work

@@ -16,24 +16,27 @@ use Rattle.tool_frame.specs.declared.status.Status.TheVariants.{Done, BudgetSpen
 use Rattle.tool_frame.proofs.Ends.{misuses}
 use Rattle.tool_frame.proofs.Fits.{IsAtOnce}
 use Rattle.tool_frame.proofs.Causes.{settled_own, never}
-use Rattle.clic_tool.specs.Bench.{Bench, empty_bench}
-use Rattle.clic_tool.specs.Run.{RunWords, run_made, run_plan}
-use Rattle.clic_tool.specs.Chain.{ChainWords, chain_made, chain_plan}
-use Rattle.clic_tool.specs.Monitor.{monitor_plan}
-use Rattle.clic_tool.specs.Gen.{gen_decides, gen_plan}
-use Rattle.clic_tool.specs.Assemble.{assemble_plan}
-use Rattle.clic_tool.specs.Disassemble.{disassemble_plan}
-use Rattle.clic_tool.specs.Mem.{mem_plan}
-use Rattle.clic_tool.specs.Unmem.{unmem_plan}
-use Rattle.clic_tool.specs.Lint.{lint_plan}
-use Rattle.clic_tool.specs.Bound.{bound_plan}
-use Rattle.clic_tool.specs.Order.{Order, Runs, Chains, Monitors, Gens, Assembles, Disassembles, Mems, Unmems, Lints, Bounds, plan_of}
+use Rattle.tool_work.specs.Bench.{Bench, empty_bench}
+use Rattle.tool_words.specs.Run.{RunWords}
+use Rattle.tool_work.specs.Run.{run_made, run_plan}
+use Rattle.tool_words.specs.Chain.{ChainWords}
+use Rattle.tool_work.specs.Chain.{chain_made, chain_plan}
+use Rattle.tool_work.specs.Monitor.{monitor_plan}
+use Rattle.tool_work.specs.Gen.{gen_decides, gen_plan}
+use Rattle.tool_work.specs.Assemble.{assemble_plan}
+use Rattle.tool_work.specs.Disassemble.{disassemble_plan}
+use Rattle.tool_work.specs.Mem.{mem_plan}
+use Rattle.tool_work.specs.Unmem.{unmem_plan}
+use Rattle.tool_work.specs.Lint.{lint_plan}
+use Rattle.tool_work.specs.Bound.{bound_plan}
+use Rattle.tool_words.specs.Order.{Order, Runs, Chains, Monitors, Gens, Assembles, Disassembles, Mems, Unmems, Lints, Bounds}
+use Rattle.clic_tool.specs.Plan.{plan_of}
 use Rattle.clic_tool.specs.RunCauses.{RanTo}
 use Rattle.clic_tool.specs.ChainCauses.{ChainedTo}
 use Rattle.clic_tool.specs.GenCauses.{GeneratedTo}
-use Rattle.clic_tool.proofs.RunEnds.{is_halted, is_budget_spent, is_vector_fault, run_no_broken}
+use Rattle.tool_work.proofs.RunEnds.{is_halted, is_budget_spent, is_vector_fault, run_no_broken}
 use Rattle.clic_tool.proofs.RunCauses.{RanSo, run_ran}
-use Rattle.clic_tool.proofs.ChainEnds.{is_done, is_broken, no_vector, is_budget_spent as is_chain_spent}
+use Rattle.tool_work.proofs.ChainEnds.{is_done, is_broken, no_vector, is_budget_spent as is_chain_spent}
 use Rattle.clic_tool.proofs.ChainCauses.{ChainedSo, chain_ran}
 use Rattle.clic_tool.proofs.Plans.{IsWork, order_works, monitor_fits, assemble_fits, disassemble_fits, mem_fits, unmem_fits, lint_fits, bound_fits}
 use Rattle.clic_tool.proofs.Verdicts.{IsAnswerStatus}

@@ -12,24 +12,35 @@ use Rattle.tool_frame.proofs.Causes.{BeginsWell}
 use Rattle.rv_assembler.specs.declared.assembling.TheConstants.{MAX_SOURCE}
 use Rattle.hart_board.specs.Run.{every_step}
 use Rattle.hart_board.proofs.Ending.{never_sink_failed}
-use Rattle.clic_tool.specs.Shipped.{shipped_meanings}
-use Rattle.clic_tool.specs.Bench.{empty_bench}
-use Rattle.clic_tool.specs.Files.{image_limit, image_read, script_limit, script_read, source_read, memory_limit, memory_read}
-use Rattle.clic_tool.specs.Run.{RunWords, run_due, run_made, run_plan}
-use Rattle.clic_tool.specs.Chain.{ChainWords, taken_at, unless_taken, slot_plan, chain_due, chain_left, chain_made, chain_plan}
-use Rattle.clic_tool.specs.Monitor.{MonitorWords, monitor_due, script_plan, monitor_plan}
-use Rattle.clic_tool.specs.Gen.{GenWords, gen_plan}
-use Rattle.clic_tool.specs.Assemble.{AssembleWords, program_due, assemble_plan}
-use Rattle.clic_tool.specs.Disassemble.{DisassembleWords, listing_due, disassemble_plan}
-use Rattle.clic_tool.specs.Mem.{MemWords, mem_due, mem_plan}
-use Rattle.clic_tool.specs.Unmem.{UnmemWords, unmem_due, unmem_plan}
-use Rattle.clic_tool.specs.Lint.{LintWords, lint_made, lint_due, lint_plan}
-use Rattle.clic_tool.specs.Bound.{BoundWords, bound_made, bound_due, bound_plan}
-use Rattle.clic_tool.specs.Order.{Order, Runs, Chains, Monitors, Gens, Assembles, Disassembles, Mems, Unmems, Lints, Bounds, plan_of}
-use Rattle.clic_tool.proofs.RunEnds.{IsWorkStatus, end_is_work}
-use Rattle.clic_tool.proofs.ChainEnds.{end_is_work as chain_is_work, never_by}
-use Rattle.clic_tool.proofs.GenEnds.{gen_is_work}
-use Rattle.clic_tool.proofs.TwoFiles.{files_fit}
+use Rattle.tool_work.specs.Shipped.{shipped_meanings}
+use Rattle.tool_work.specs.Bench.{empty_bench}
+use Rattle.tool_work.specs.Files.{image_limit, image_read, script_limit, script_read, source_read, memory_limit, memory_read}
+use Rattle.tool_words.specs.Run.{RunWords}
+use Rattle.tool_work.specs.Run.{run_due, run_made, run_plan}
+use Rattle.tool_words.specs.Chain.{ChainWords}
+use Rattle.tool_work.specs.Chain.{taken_at, unless_taken, slot_plan, chain_due, chain_left, chain_made, chain_plan}
+use Rattle.tool_words.specs.Monitor.{MonitorWords}
+use Rattle.tool_work.specs.Monitor.{monitor_due, script_plan, monitor_plan}
+use Rattle.tool_words.specs.Gen.{GenWords}
+use Rattle.tool_work.specs.Gen.{gen_plan}
+use Rattle.tool_words.specs.Assemble.{AssembleWords}
+use Rattle.tool_work.specs.Assemble.{program_due, assemble_plan}
+use Rattle.tool_words.specs.Disassemble.{DisassembleWords}
+use Rattle.tool_work.specs.Disassemble.{listing_due, disassemble_plan}
+use Rattle.tool_words.specs.Mem.{MemWords}
+use Rattle.tool_work.specs.Mem.{mem_due, mem_plan}
+use Rattle.tool_words.specs.Unmem.{UnmemWords}
+use Rattle.tool_work.specs.Unmem.{unmem_due, unmem_plan}
+use Rattle.tool_words.specs.Lint.{LintWords}
+use Rattle.tool_work.specs.Lint.{lint_made, lint_due, lint_plan}
+use Rattle.tool_words.specs.Bound.{BoundWords}
+use Rattle.tool_work.specs.Bound.{bound_made, bound_due, bound_plan}
+use Rattle.tool_words.specs.Order.{Order, Runs, Chains, Monitors, Gens, Assembles, Disassembles, Mems, Unmems, Lints, Bounds}
+use Rattle.clic_tool.specs.Plan.{plan_of}
+use Rattle.tool_work.proofs.RunEnds.{IsWorkStatus, end_is_work}
+use Rattle.tool_work.proofs.ChainEnds.{end_is_work as chain_is_work, never_by}
+use Rattle.tool_work.proofs.GenEnds.{gen_is_work}
+use Rattle.tool_work.proofs.TwoFiles.{files_fit}
 use Rattle.clic_tool.proofs.Verdicts.{IsAnswerStatus, verdict_answers, bound_answers}
 
 pub run_fits : (run : RunWords) → Fits (IsAtOnce IsWorkStatus) (run_plan run)

@@ -8,11 +8,12 @@ use Rattle.tool_frame.specs.Plan.{Makes}
 use Rattle.tool_frame.specs.Answers.{Reaches}
 use Rattle.tool_frame.specs.Code.{OfCommand, origin_of}
 use Rattle.tool_frame.specs.declared.status.Status.{Status}
-use Rattle.clic_tool.specs.Bench.{Bench, empty_bench}
-use Rattle.clic_tool.specs.Run.{RunWords, run_due, run_made, status_of, run_plan}
-use Rattle.clic_tool.specs.Order.{Order, Runs}
-use Rattle.clic_tool.specs.RunCauses.{PassesFiles}
-use Rattle.clic_tool.proofs.TwoFiles.{both_passed}
+use Rattle.tool_work.specs.Bench.{Bench, empty_bench}
+use Rattle.tool_words.specs.Run.{RunWords}
+use Rattle.tool_work.specs.Run.{run_due, run_made, status_of, run_plan}
+use Rattle.tool_words.specs.Order.{Order, Runs}
+use Rattle.tool_work.specs.Files.{PassesFiles}
+use Rattle.tool_work.proofs.TwoFiles.{both_passed}
 
 -- the run was made, and ended with that status
 pub record RanSo (order : Option Order) (shelf shelf' : ShelfView) (s : Status) : Type 0 where

@@ -6,8 +6,8 @@ use Rattle.chain_lint.specs.declared.table_bound.TableBound.{TableBound}
 use Rattle.chain_lint.specs.declared.table_bound.TableBound.TheVariants.{Bound, BadTable, Refused}
 use Rattle.tool_frame.specs.declared.status.Status.{Status}
 use Rattle.tool_frame.specs.declared.status.Status.TheVariants.{Done, Rejected}
-use Rattle.clic_tool.specs.Lint.{status_of as verdict_status}
-use Rattle.clic_tool.specs.Bound.{status_of as bound_status}
+use Rattle.tool_work.specs.Lint.{status_of as verdict_status}
+use Rattle.tool_work.specs.Bound.{status_of as bound_status}
 use Rattle.clic_tool.specs.LintCauses.{IsYes, IsNo, IsBounded, IsRefused}
 
 -- the status of an answer

@@ -4,8 +4,9 @@ use Rattle.chain_moves.specs.declared.dispatcher.Dispatcher.{Dispatcher}
 use Rattle.chain_moves.specs.declared.dispatcher.Dispatcher.TheVariants.{Looping, Returning}
 use Rattle.chain_core.specs.declared.chain_end.ChainEnd.{ChainEnd}
 use Rattle.chain_core.specs.declared.chain_end.ChainEnd.TheVariants.{Done}
-use Rattle.clic_tool.specs.Gen.{GenWords, gen_end, gen_decides}
-use Rattle.clic_tool.specs.Order.{Order, Gens}
+use Rattle.tool_words.specs.Gen.{GenWords}
+use Rattle.tool_work.specs.Gen.{gen_end, gen_decides}
+use Rattle.tool_words.specs.Order.{Order, Gens}
 
 -- the words are those of `gen`, and the first of its chains that isn't done ended so
 pub record GeneratedTo (ended : ChainEnd → Type 0) (order : Option Order) : Type 0 where

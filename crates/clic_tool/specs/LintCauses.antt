@@ -8,10 +8,12 @@ use Rattle.chain_flow.specs.declared.verdict.Verdict.TheVariants.{Yes, No}
 use Rattle.chain_lint.specs.declared.table_bound.TableBound.{TableBound}
 use Rattle.chain_lint.specs.declared.table_bound.TableBound.TheVariants.{Bound, BadTable, Refused}
 use Rattle.tool_frame.specs.Answers.{Passes}
-use Rattle.clic_tool.specs.Files.{image_limit, image_stage}
-use Rattle.clic_tool.specs.Lint.{LintWords, lint_made}
-use Rattle.clic_tool.specs.Bound.{BoundWords, bound_made}
-use Rattle.clic_tool.specs.Order.{Order, Lints, Bounds}
+use Rattle.tool_work.specs.Files.{image_limit, image_stage}
+use Rattle.tool_words.specs.Lint.{LintWords}
+use Rattle.tool_work.specs.Lint.{lint_made}
+use Rattle.tool_words.specs.Bound.{BoundWords}
+use Rattle.tool_work.specs.Bound.{bound_made}
+use Rattle.tool_words.specs.Order.{Order, Lints, Bounds}
 
 -- the words ask for a verdict, the image was given and passed, and the verdict is such
 pub record LintedTo (Answered : Verdict → Type 0) (order : Option Order) (shelf shelf' : ShelfView) : Type 0 where

@@ -1,12 +1,13 @@
 -- Where memory was wanting in a script.
-use Rattle.std.specs.Prelude.{◌≡◌, ◌⊎◌, ℕ, List, [], take, true}
+use Rattle.std.specs.Prelude.{◌⊎◌, ℕ, List, [], take, true}
 use Rattle.board_outside.specs.Shelf.{ShelfView}
 use Rattle.board_outside.specs.Sink.{SinkView, Writes}
 use Rattle.hart_memory.specs.Image.{ImageView}
 use Rattle.hart_monitor.specs.declared.command.Command.{Command}
 use Rattle.tool_frame.specs.Answers.{Passes}
-use Rattle.clic_tool.specs.Files.{image_limit, image_stage, script_limit, script_stage}
-use Rattle.clic_tool.specs.Monitor.{MonitorWords, monitored_text}
+use Rattle.tool_work.specs.Files.{image_limit, image_stage, script_limit, script_stage}
+use Rattle.tool_words.specs.Monitor.{MonitorWords}
+use Rattle.tool_work.specs.Monitor.{monitored_text}
 
 -- both files were given and passed, and a front of the texts of the commands was written
 pub record WritesSome (words : MonitorWords) (shelf shelf' : ShelfView) (sink sink' : SinkView) : Type 0 where

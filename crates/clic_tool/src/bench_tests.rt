@@ -1,5 +1,4 @@
 // Chains that are called: the boards of a bench.
-use crate::bench::Bench;
 use crate::command::clic_main;
 use crate::tests::words_of;
 use board_outside::{MemoryShelf, MemorySink};
@@ -9,6 +8,7 @@ use std::alloc::Global;
 use std::process::Abort;
 use std::test::Fail;
 use tool_frame::Status;
+use tool_work::Bench;
 
 // tests/rows/interrupt.img
 pub const FIVE_INPUTS: [u8; 176] = [

@@ -8,36 +8,30 @@ ghost use Rattle.tool_frame.specs.Answers.{FollowsWith, Leaves, Misuses, IsCalm,
 ghost use Rattle.tool_frame.specs.Causes.{NoneRose, AtFile, IsAbsentFile, IsFailedFile, IsRefusedFile, StopsShort};
 ghost use Rattle.chain_core.specs.declared.chain_end.ChainEnd.TheVariants as ends;
 ghost use Rattle.chain_moves.specs.declared.broken.Broken.{Broken as BrokenBy};
-ghost use Rattle.clic_tool.specs.Bench.{empty_bench};
-ghost use Rattle.clic_tool.specs.Run.{RunWords};
-ghost use Rattle.clic_tool.specs.Chain.{ChainWords};
-ghost use Rattle.clic_tool.specs.Monitor.{MonitorWords};
-ghost use Rattle.clic_tool.specs.Gen.{GenWords};
-ghost use Rattle.clic_tool.specs.Lint.{LintWords};
-ghost use Rattle.clic_tool.specs.Bound.{BoundWords};
-ghost use Rattle.clic_tool.specs.Order.{Runs, Chains, Monitors, Gens, Lints, Bounds, order_of, view, plan_of};
+ghost use Rattle.tool_work.specs.Bench.{empty_bench};
+ghost use Rattle.tool_words.specs.Run.{RunWords};
+ghost use Rattle.tool_words.specs.Chain.{ChainWords};
+ghost use Rattle.tool_words.specs.Monitor.{MonitorWords};
+ghost use Rattle.tool_words.specs.Gen.{GenWords};
+ghost use Rattle.tool_words.specs.Lint.{LintWords};
+ghost use Rattle.tool_words.specs.Bound.{BoundWords};
+ghost use Rattle.tool_words.specs.Order.{Runs, Chains, Monitors, Gens, Lints, Bounds, order_of, view};
+ghost use Rattle.clic_tool.specs.Plan.{plan_of};
 ghost use Rattle.clic_tool.specs.RunCauses.{RanTo};
-ghost use Rattle.clic_tool.specs.ChainCauses.{ChainedTo, IsServedTo};
+ghost use Rattle.tool_work.specs.Chain.{IsServedTo};
+ghost use Rattle.clic_tool.specs.ChainCauses.{ChainedTo};
 ghost use Rattle.clic_tool.specs.GenCauses.{GeneratedTo, AreDone};
 ghost use Rattle.clic_tool.specs.MonitorCauses.{WantsInScript};
 ghost use Rattle.clic_tool.specs.LintCauses.{LintedTo, BoundTo, IsYes, IsNo, IsBounded, IsRefused};
 
-use crate::assembling::assemble_file;
-use crate::bench::Bench;
-use crate::bounding::bound_file;
-use crate::chaining::chain_files;
-use crate::disassembling::disassemble_file;
-use crate::generating::generate;
-use crate::linting::lint_file;
-use crate::mem_reading::unmem_file;
-use crate::mem_writing::mem_file;
-use crate::monitoring::monitor_files;
-use crate::order::Order;
-use crate::order_reading::read_order;
-use crate::running::run_files;
 use board_outside::{Shelf, Sink, Words};
 use std::alloc::Global;
 use tool_frame::{Status, end_usage, status_in};
+use tool_words::{Order, read_order};
+use tool_work::{
+    Bench, assemble_file, bound_file, chain_files, disassemble_file, generate, lint_file, mem_file,
+    monitor_files, run_files, unmem_file,
+};
 
 // Does what was asked for.
 fn follow<F: Shelf, W: Sink>(

@@ -1,71 +1,28 @@
 // The commands `asm`, `disasm`, `run`, `chain`, `monitor`, `gen`, `mem`, `unmem`, `lint` and `bound`.
 #![tactic(auto)]
 
-mod assemble_command;
-mod assemble_order;
-mod assembling;
-mod bench;
 #[cfg(test)]
 mod bench_tests;
 #[cfg(test)]
 mod board_tests;
-mod bound_command;
-mod bound_order;
-mod bounding;
-mod chain_command;
-mod chain_order;
-mod chain_running;
 #[cfg(test)]
 mod chain_sink_tests;
-mod chaining;
 mod command;
-mod disassemble_command;
-mod disassemble_order;
-mod disassembling;
-mod gen_command;
-mod gen_events;
-mod gen_image;
-mod gen_order;
-mod generating;
-mod image_file;
-mod lint_command;
-mod lint_order;
 #[cfg(test)]
 mod lint_tests;
-mod linting;
-mod mem_command;
-mod mem_order;
-mod mem_reading;
-mod mem_writing;
-mod memory_file;
-mod monitor_command;
-mod monitor_order;
-mod monitoring;
-mod order;
-mod order_reading;
-mod prepared;
-mod run_command;
-mod run_order;
-mod running;
-mod scenario_file;
-mod script_file;
 #[cfg(test)]
 mod shelf_tests;
 #[cfg(test)]
 mod sink_tests;
-mod source_file;
-mod stack_region;
 #[cfg(test)]
 mod tests;
-mod unmem_command;
-mod unmem_order;
 
-use bench::Bench;
 use board_outside::{FileShelf, StdSink, Words};
 use command::clic_main;
 use std::process::ExitCode;
 use std::{env, io};
 use tool_frame::Status;
+use tool_work::Bench;
 
 // The words find no memory.
 const WORDS_WANT_MEMORY: u8 = 7;

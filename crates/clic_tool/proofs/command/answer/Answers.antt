@@ -1,8 +1,9 @@
-use Rattle.clic_tool.specs.Bench.{empty_bench}
+use Rattle.tool_work.specs.Bench.{empty_bench}
 use Rattle.std.proofs.Common.{◌≡◌, Option, Some, None, subst, inl}
 use Rattle.tool_frame.specs.Answers.{FollowsWith}
 use Rattle.tool_frame.proofs.Ends.{lacks, makes}
-use Rattle.clic_tool.specs.Order.{Order, order_of, view, plan_of}
+use Rattle.tool_words.specs.Order.{Order, order_of, view}
+use Rattle.clic_tool.specs.Plan.{plan_of}
 use Rattle.clic_tool.proofs.command.answer.Goals as goal
 
 pub returns-in-Ok-Some-clause-follows : goal.returns-in-Ok-Some-clause-follows

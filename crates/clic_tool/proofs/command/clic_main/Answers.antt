@@ -1,5 +1,6 @@
-use Rattle.clic_tool.specs.Bench.{empty_bench}
-use Rattle.clic_tool.specs.Order.{order_of, plan_of}
+use Rattle.tool_work.specs.Bench.{empty_bench}
+use Rattle.tool_words.specs.Order.{order_of}
+use Rattle.clic_tool.specs.Plan.{plan_of}
 use Rattle.tool_frame.proofs.Calm.{calm_done}
 use Rattle.tool_frame.proofs.Left.{calm_left}
 use Rattle.tool_frame.proofs.Complete.{complete, none_rose}

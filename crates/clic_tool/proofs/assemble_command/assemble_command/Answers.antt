@@ -1,8 +1,0 @@
-use Rattle.std.proofs.Common.{rules, ap₂, ◌∙◌}
-use Rattle.clap.specs.Words.{with_rule}
-use Rattle.clic_tool.proofs.assemble_command.assemble_command.Goals as goal
-
-pub returns : goal.returns
-returns c =
-    c.in_ok-with_symbols.ensures.shape (search rules) ∙ ap₂ with_rule (
-    c.in_ok-with_source.ensures.shape (search rules) ∙ ap₂ with_rule c.new.ensures.app c.text_argument.ensures.rule) c.flag_argument.ensures.rule

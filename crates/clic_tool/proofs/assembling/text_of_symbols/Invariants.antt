@@ -1,7 +1,0 @@
-use Rattle.std.proofs.Common.{◌≡◌, drop, ◌++◌}
-use Rattle.clic_tool.specs.Assemble.{symbols_text}
-use Rattle.clic_tool.proofs.assembling.text_of_symbols.Given as goal
-
--- the text so far and that of the labels that are left make the whole text
-abbrev pub invariant-loop-i : goal.invariant-loop-i
-invariant-loop-i l = l.text ++ symbols_text (drop l.i l.symbols) ≡ symbols_text l.symbols

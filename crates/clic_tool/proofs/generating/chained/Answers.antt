@@ -1,9 +1,0 @@
-use Rattle.std.proofs.Common.{refl}
-use Rattle.clic_tool.proofs.GenEnds.{all_taken}
-use Rattle.clic_tool.proofs.generating.chained.Goals as goal
-
-pub returns-clause-end : goal.returns-clause-end
-returns-clause-end c = (c.chain_shipped.ensures.end (all_taken _ refl refl c.chain_shipped.ensures.text)).0
-
-pub returns-clause-board : goal.returns-clause-board
-returns-clause-board c = (c.chain_shipped.ensures.end (all_taken _ refl refl c.chain_shipped.ensures.text)).1

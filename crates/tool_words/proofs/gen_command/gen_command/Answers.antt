@@ -1,0 +1,6 @@
+use Rattle.std.proofs.Common.{rules, ap₂, ◌∙◌}
+use Rattle.clap.specs.Words.{with_rule}
+use Rattle.tool_words.proofs.gen_command.gen_command.Goals as goal
+
+pub returns : goal.returns
+returns c = c.in_ok-with_number.ensures.shape (search rules) ∙ ap₂ with_rule c.new.ensures.app c.number_argument.ensures.rule

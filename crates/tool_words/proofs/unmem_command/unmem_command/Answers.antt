@@ -1,0 +1,8 @@
+use Rattle.std.proofs.Common.{rules, ap₂, ◌∙◌}
+use Rattle.clap.specs.Words.{with_rule}
+use Rattle.tool_words.proofs.unmem_command.unmem_command.Goals as goal
+
+pub returns : goal.returns
+returns c =
+    c.in_ok-with_entry.ensures.shape (search rules) ∙ ap₂ with_rule (
+    c.in_ok-with_file.ensures.shape (search rules) ∙ ap₂ with_rule c.new.ensures.app c.text_argument.ensures.rule) c.number_argument.ensures.rule

@@ -1,0 +1,11 @@
+pub mod Run
+pub mod Chain
+pub mod Monitor
+pub mod Gen
+pub mod Assemble
+pub mod Disassemble
+pub mod Mem
+pub mod Unmem
+pub mod Lint
+pub mod Bound
+pub mod Order

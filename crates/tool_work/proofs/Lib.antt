@@ -1,0 +1,9 @@
+pub mod RunEnds
+pub mod TwoFiles
+pub mod ChainEnds
+pub mod GenEnds
+mod Pulses
+mod WordBytes
+mod Labels
+mod InShape
+mod MemoryTexts

@@ -1,0 +1,16 @@
+pub mod Bench
+pub mod Files
+pub mod Shipped
+pub mod Run
+pub mod Chain
+pub mod Monitor
+pub mod GenImage
+pub mod GenEvents
+pub mod Gen
+pub mod Assemble
+pub mod Disassemble
+pub mod Mem
+pub mod Unmem
+pub mod Region
+pub mod Lint
+pub mod Bound

@@ -1,0 +1,36 @@
+// What each command does with its files, and what it writes.
+#![tactic(auto)]
+
+mod assembling;
+mod bench;
+mod bounding;
+mod chain_running;
+mod chaining;
+mod disassembling;
+mod gen_events;
+mod gen_image;
+mod generating;
+mod image_file;
+mod linting;
+mod mem_reading;
+mod mem_writing;
+mod memory_file;
+mod monitoring;
+mod prepared;
+mod running;
+mod scenario_file;
+mod script_file;
+mod source_file;
+mod stack_region;
+
+pub use assembling::assemble_file;
+pub use bench::Bench;
+pub use bounding::bound_file;
+pub use chaining::chain_files;
+pub use disassembling::disassemble_file;
+pub use generating::generate;
+pub use linting::lint_file;
+pub use mem_reading::unmem_file;
+pub use mem_writing::mem_file;
+pub use monitoring::monitor_files;
+pub use running::run_files;
