@@ -2,22 +2,22 @@
 use Rattle.std.specs.Prelude.{ℕ, List, Result, Ok, Err, codes}
 use Rattle.hart_memory.specs.Image.{ImageView}
 use Rattle.hart_board.specs.Event.{EventList}
-use Rattle.board_inputs.specs.ImageReading.{Fault as ImageFault, image_of}
-use Rattle.board_inputs.specs.ScenarioReading.{Fault as ScenarioFault, scenario_of}
+use Rattle.board_inputs.specs.ImageReading.{image_of}
+use Rattle.board_inputs.specs.ScenarioReading.{scenario_of}
 use Rattle.board_inputs.specs.declared.image_why.ImageWhy.{ImageWhy}
 use Rattle.board_inputs.specs.declared.image_why.ImageWhy.TheVariants.{BadMagic, Truncated, OutsideMemory, Overlap, TooMany, Trailing}
 use Rattle.board_inputs.specs.declared.scenario_why.ScenarioWhy.{ScenarioWhy}
 use Rattle.board_inputs.specs.declared.scenario_why.ScenarioWhy.TheVariants.{BadLine, OutOfOrder, TooMany as TooManyEvents}
-use Rattle.mem_text.specs.Reading.{Fault as MemoryFault, read_text}
+use Rattle.mem_text.specs.Reading.{read_text}
 use Rattle.mem_text.specs.declared.mem_why.MemWhy.{MemWhy}
 use Rattle.mem_text.specs.declared.mem_why.MemWhy.TheVariants.{BadByte, TooMany as TooManySegments, OutsideMemory as MemoryOutside, Overlap as MemoryOverlap, Truncated as MemoryTruncated}
-use Rattle.hart_monitor.specs.ScriptReading.{Fault as ScriptFault, script_of}
+use Rattle.hart_monitor.specs.ScriptReading.{script_of}
 use Rattle.hart_monitor.specs.declared.command.Command.{Command}
 use Rattle.hart_monitor.specs.declared.script_why.ScriptWhy.{ScriptWhy}
 use Rattle.hart_monitor.specs.declared.script_why.ScriptWhy.TheVariants.{BadLine as BadScriptLine, TooMany as TooManyCommands}
 use Rattle.asm_forms.specs.declared.asm_why.AsmWhy.{AsmWhy}
 use Rattle.asm_forms.specs.declared.asm_why.AsmWhy.TheVariants.{Lex, UnknownMnemonic, BadOperands, UnknownLabel, DoubleLabel, OutOfReach, OutsideMemory as SourceOutsideMemory, Overlap as SourceOverlap, NoEntry, TooLarge}
-use Rattle.rv_assembler.specs.Source.{Program, Refusal as SourceFault, assembled}
+use Rattle.rv_assembler.specs.Source.{assembled}
 use Rattle.rv_assembler.specs.declared.assembled.Assembled.{Assembled}
 use Rattle.rv_assembler.specs.declared.assembling.TheConstants.{MAX_SOURCE}
 use Rattle.tool_frame.specs.Lines.{refused_line}
@@ -26,6 +26,11 @@ use Rattle.tool_frame.specs.Plan.{Plan, measured, reads}
 use Rattle.tool_work.specs.Bench.{Bench}
 use Rattle.board_outside.specs.Shelf.{ShelfView}
 use Rattle.tool_frame.specs.Answers.{Passes}
+
+-- what is made of what a reader gives, or the line of its refusal
+abbrev pub or_line : {V W F : Type 0} → (V → W) → (F → List ℕ) → Result V F → Result W (List ℕ)
+or_line made line (Ok value) = Ok (made value)
+or_line made line (Err fault) = Err (line fault)
 
 -- ---- an image
 
@@ -42,13 +47,9 @@ image_why Overlap = codes "Overlap"
 image_why TooMany = codes "TooMany"
 image_why Trailing = codes "Trailing"
 
-abbrev pub image_or_line : Result ImageView ImageFault → Result ImageView (List ℕ)
-image_or_line (Ok image) = Ok image
-image_or_line (Err fault) = Err (refused_line (codes "image") (image_why fault.why) fault.place)
-
 -- the image of a file, or the line of its refusal
 unfoldable pub image_read : List ℕ → Result ImageView (List ℕ)
-image_read bytes = image_or_line (image_of bytes)
+image_read bytes = or_line (λ image. image) (λ fault. refused_line (codes "image") (image_why fault.why) fault.place) (image_of bytes)
 
 abbrev pub image_stage : List ℕ → Result ImageView (List ℕ)
 image_stage bytes = measured (codes "image") image_limit image_read bytes
@@ -65,13 +66,9 @@ scenario_why BadLine = codes "BadLine"
 scenario_why OutOfOrder = codes "OutOfOrder"
 scenario_why TooManyEvents = codes "TooMany"
 
-abbrev pub events_or_line : Result EventList ScenarioFault → Result EventList (List ℕ)
-events_or_line (Ok events) = Ok events
-events_or_line (Err fault) = Err (refused_line (codes "scenario") (scenario_why fault.why) fault.line)
-
 -- the events of a file and the shape of the boards that they are for, or the line of its refusal
 unfoldable pub scenario_read : List ℕ → Result EventList (List ℕ)
-scenario_read bytes = events_or_line (scenario_of bytes)
+scenario_read bytes = or_line (λ events. events) (λ fault. refused_line (codes "scenario") (scenario_why fault.why) fault.line) (scenario_of bytes)
 
 abbrev pub scenario_stage : List ℕ → Result EventList (List ℕ)
 scenario_stage bytes = measured (codes "scenario") scenario_limit scenario_read bytes
@@ -87,13 +84,9 @@ abbrev pub script_why : ScriptWhy → List ℕ
 script_why BadScriptLine = codes "BadLine"
 script_why TooManyCommands = codes "TooMany"
 
-abbrev pub commands_or_line : Result (List Command) ScriptFault → Result (List Command) (List ℕ)
-commands_or_line (Ok commands) = Ok commands
-commands_or_line (Err fault) = Err (refused_line (codes "script") (script_why fault.why) fault.line)
-
 -- the commands of a file, or the line of its refusal
 unfoldable pub script_read : List ℕ → Result (List Command) (List ℕ)
-script_read bytes = commands_or_line (script_of bytes)
+script_read bytes = or_line (λ commands. commands) (λ fault. refused_line (codes "script") (script_why fault.why) fault.line) (script_of bytes)
 
 abbrev pub script_stage : List ℕ → Result (List Command) (List ℕ)
 script_stage bytes = measured (codes "script") script_limit script_read bytes
@@ -113,13 +106,9 @@ source_why SourceOverlap = codes "Overlap"
 source_why NoEntry = codes "NoEntry"
 source_why TooLarge = codes "TooLarge"
 
-abbrev pub assembled_or_line : Result Program SourceFault → Result Assembled (List ℕ)
-assembled_or_line (Ok program) = Ok (record { image = program.image; symbols = program.symbols })
-assembled_or_line (Err fault) = Err (refused_line (codes "source") (source_why fault.why) fault.line)
-
 -- the image of a source with its labels, or the line of its refusal
 unfoldable pub source_read : List ℕ → Result Assembled (List ℕ)
-source_read bytes = assembled_or_line (assembled bytes)
+source_read bytes = or_line (λ program. record { image = program.image; symbols = program.symbols }) (λ fault. refused_line (codes "source") (source_why fault.why) fault.line) (assembled bytes)
 
 abbrev pub source_stage : List ℕ → Result Assembled (List ℕ)
 source_stage bytes = measured (codes "source") MAX_SOURCE source_read bytes
@@ -138,13 +127,9 @@ memory_why MemoryOutside = codes "OutsideMemory"
 memory_why MemoryOverlap = codes "Overlap"
 memory_why MemoryTruncated = codes "Truncated"
 
-abbrev pub memory_or_line : Result ImageView MemoryFault → Result ImageView (List ℕ)
-memory_or_line (Ok image) = Ok image
-memory_or_line (Err fault) = Err (refused_line (codes "memory") (memory_why fault.why) fault.place)
-
 -- the image of a text with this entry, or the line of the text's refusal
 unfoldable pub memory_read : ℕ → List ℕ → Result ImageView (List ℕ)
-memory_read entry bytes = memory_or_line (read_text entry bytes)
+memory_read entry bytes = or_line (λ image. image) (λ fault. refused_line (codes "memory") (memory_why fault.why) fault.place) (read_text entry bytes)
 
 abbrev pub memory_stage : ℕ → List ℕ → Result ImageView (List ℕ)
 memory_stage entry bytes = measured (codes "memory") memory_limit (memory_read entry) bytes

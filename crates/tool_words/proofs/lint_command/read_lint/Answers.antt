@@ -1,5 +1,7 @@
-use Rattle.tool_words.proofs.Commands.{lint_plain, plain_by}
+use Rattle.std.proofs.Common.{refl}
+use Rattle.tool_words.specs.Lint.{lint_app}
+use Rattle.tool_words.proofs.Commands.{plain_by}
 use Rattle.tool_words.proofs.lint_command.read_lint.Goals as goal
 
 pub matches_taken-requires : goal.matches_taken-requires
-matches_taken-requires c = plain_by _ _ c.in_ok-command.ensures lint_plain
+matches_taken-requires c = plain_by _ lint_app c.in_ok-command.ensures refl refl refl refl refl

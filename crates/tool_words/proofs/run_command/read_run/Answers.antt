@@ -1,5 +1,7 @@
-use Rattle.tool_words.proofs.Commands.{run_plain, plain_by}
+use Rattle.std.proofs.Common.{refl}
+use Rattle.tool_words.specs.Run.{run_app}
+use Rattle.tool_words.proofs.Commands.{plain_by}
 use Rattle.tool_words.proofs.run_command.read_run.Goals as goal
 
 pub matches_taken-requires : goal.matches_taken-requires
-matches_taken-requires c = plain_by _ _ c.in_ok-command.ensures run_plain
+matches_taken-requires c = plain_by _ run_app c.in_ok-command.ensures refl refl refl refl refl

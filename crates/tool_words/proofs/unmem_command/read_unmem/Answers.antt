@@ -1,5 +1,7 @@
-use Rattle.tool_words.proofs.Commands.{unmem_plain, plain_by}
+use Rattle.std.proofs.Common.{refl}
+use Rattle.tool_words.specs.Unmem.{unmem_app}
+use Rattle.tool_words.proofs.Commands.{plain_by}
 use Rattle.tool_words.proofs.unmem_command.read_unmem.Goals as goal
 
 pub matches_taken-requires : goal.matches_taken-requires
-matches_taken-requires c = plain_by _ _ c.in_ok-command.ensures unmem_plain
+matches_taken-requires c = plain_by _ unmem_app c.in_ok-command.ensures refl refl refl refl refl
