@@ -1,71 +1,22 @@
 // A chain on the shipped board, with direct services or without.
-ghost use Rattle.std.specs.Prelude.{◌≡◌, true, false, IsTrue, IfOk, IfErr};
+ghost use Rattle.std.specs.Prelude.{◌≡◌, IsTrue, IfOk, IfErr};
 ghost use Rattle.board_outside.specs.Sink.{Writes};
 ghost use Rattle.chain_moves.specs.Words.{HasDispatcher};
-ghost use Rattle.chain_moves.specs.Watched.{nothing_watched};
-ghost use Rattle.chain_core.specs.Chain.{chain_end, board_after, chain_text, is_whole};
-ghost use Rattle.chain_direct.specs.DirectWatched.{nothing_direct};
-ghost use Rattle.chain_direct.specs.DirectText.{direct_end, direct_board, direct_text};
-ghost use Rattle.tool_work.specs.Shipped.{shipped_meanings};
+ghost use Rattle.chain_core.specs.Chain.{is_whole};
 ghost use Rattle.tool_work.specs.Chain.{ends_by, text_by, board_by, HasItsServices, HasItsState};
 
 use board_devices::AllDevices;
 use board_outside::Sink;
 use chain_core::{ChainEnd, chain};
 use chain_direct::{DirectWatch, chain_direct};
-use chain_moves::{Dispatcher, Watch};
+use chain_moves::Watch;
 use hart_board::{Board, Events};
 use hart_words::WantOfMemory;
 use std::alloc::Global;
 use tool_words::ChainOrder;
 
-/// Runs the shipped board under its dispatcher.
-#[tactic(auto, unfolding(crate::specs::Shipped::shipped_meanings))]
-pub fn chain_shipped<W: Sink>(
-    board: &mut Board<AllDevices>,
-    watch: &mut Watch,
-    dispatcher: Dispatcher,
-    events: &Events,
-    bound: u64,
-    trace: bool,
-    out: &mut W,
-) -> ChainEnd
-    requires has { HasDispatcher dispatcher board.old.memory.rom }
-    requires level { board.old.csrs.mil ≡ 0 }
-    requires new { watch.old ≡ nothing_watched }
-    requires shape { events.now.shape ≡ board.old.outside.clic.shape }
-    ensures end { IsTrue (is_whole result) → (result ≡ (chain_end shipped_meanings events.now.list dispatcher bound board.old).end) × (board.new ≡ board_after shipped_meanings events.now.list dispatcher bound board.old) }
-    ensures text { Writes (is_whole result) (W.told out.old) (W.told out.new) (chain_text shipped_meanings events.now.list dispatcher trace bound board.old) }
-    ensures services { HasItsServices false dispatcher bound events.now board.old }
-    ensures state { HasItsState false dispatcher bound events.now board.old }
-{
-    chain(board, watch, dispatcher, events, bound, trace, out)
-}
-
-// The same with direct services.
-#[tactic(auto, unfolding(crate::specs::Shipped::shipped_meanings))]
-fn direct_shipped<W: Sink>(
-    board: &mut Board<AllDevices>,
-    watch: &mut DirectWatch,
-    dispatcher: Dispatcher,
-    events: &Events,
-    bound: u64,
-    trace: bool,
-    out: &mut W,
-) -> ChainEnd
-    requires has { HasDispatcher dispatcher board.old.memory.rom }
-    requires level { board.old.csrs.mil ≡ 0 }
-    requires new { watch.old ≡ nothing_direct }
-    requires shape { events.now.shape ≡ board.old.outside.clic.shape }
-    ensures end { IsTrue (is_whole result) → (result ≡ (direct_end shipped_meanings events.now.list dispatcher bound board.old).end) × (board.new ≡ direct_board shipped_meanings events.now.list dispatcher bound board.old) }
-    ensures text { Writes (is_whole result) (W.told out.old) (W.told out.new) (direct_text shipped_meanings events.now.list dispatcher trace bound board.old) }
-    ensures services { HasItsServices true dispatcher bound events.now board.old }
-    ensures state { HasItsState true dispatcher bound events.now board.old }
-{
-    chain_direct(board, watch, dispatcher, events, bound, trace, out)
-}
-
 /// Runs the shipped board under its dispatcher as the words say.
+#[tactic(auto, unfolding(crate::specs::Shipped::shipped_meanings))]
 pub fn run_chain<W: Sink>(
     alloc: Global,
     order: &ChainOrder<'_>,
@@ -84,7 +35,7 @@ pub fn run_chain<W: Sink>(
 {
     if order.direct {
         let mut watch = DirectWatch::new(alloc)?;
-        Ok(direct_shipped(
+        Ok(chain_direct(
             board,
             &mut watch,
             order.dispatcher,
@@ -95,7 +46,7 @@ pub fn run_chain<W: Sink>(
         ))
     } else {
         let mut watch = Watch::new(alloc)?;
-        Ok(chain_shipped(
+        Ok(chain(
             board,
             &mut watch,
             order.dispatcher,

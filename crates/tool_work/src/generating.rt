@@ -14,14 +14,13 @@ ghost use Rattle.tool_frame.specs.Answers.{Ends, Leaves, FollowsWith};
 ghost use Rattle.tool_frame.specs.Due.{worked};
 
 use crate::bench::Bench;
-use crate::chain_running::chain_shipped;
 use crate::chaining::{board_with, status_of_end};
 use crate::gen_events::generated_events;
 use crate::gen_image::generated_image;
 use crate::prepared::Prepared;
 use board_devices::AllDevices;
 use board_outside::{Quiet, Sink, SinkFault};
-use chain_core::{ChainEnd, put_end};
+use chain_core::{ChainEnd, chain, put_end};
 use chain_moves::{Dispatcher, Watch};
 use hart_board::{Board, Events};
 use hart_memory::Image;
@@ -49,13 +48,14 @@ fn prepare(
 }
 
 // Runs the chain to its end. Nobody reads what it writes.
+#[tactic(auto, unfolding(crate::specs::Shipped::shipped_meanings))]
 fn chained(prepared: &mut Prepared, dispatcher: Dispatcher, events: &Events) -> ChainEnd
     requires ready { IsPrepared dispatcher events.now prepared.old }
     ensures end { result ≡ (chain_end shipped_meanings events.now.list dispatcher gen_bound prepared.old.board).end }
     ensures board { prepared.new.board ≡ board_after shipped_meanings events.now.list dispatcher gen_bound prepared.old.board }
 {
     let mut nowhere = Quiet::new();
-    chain_shipped(
+    chain(
         &mut prepared.board,
         &mut prepared.watch,
         dispatcher,

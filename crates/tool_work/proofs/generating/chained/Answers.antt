@@ -3,7 +3,7 @@ use Rattle.tool_work.proofs.GenEnds.{all_taken}
 use Rattle.tool_work.proofs.generating.chained.Goals as goal
 
 pub returns-clause-end : goal.returns-clause-end
-returns-clause-end c = (c.chain_shipped.ensures.end (all_taken _ refl refl c.chain_shipped.ensures.text)).0
+returns-clause-end c = (c.chain.ensures.end (all_taken _ refl refl c.chain.ensures.text)).0
 
 pub returns-clause-board : goal.returns-clause-board
-returns-clause-board c = (c.chain_shipped.ensures.end (all_taken _ refl refl c.chain_shipped.ensures.text)).1
+returns-clause-board c = (c.chain.ensures.end (all_taken _ refl refl c.chain.ensures.text)).1
