@@ -1,7 +1,7 @@
 // Chains that are called: the boards of a bench.
-use crate::command::clic_main;
-use crate::tests::words_of;
-use board_outside::{MemoryShelf, MemorySink};
+use crate::case::{Case, answered_on, given};
+use crate::images::FIVE_INPUTS;
+use board_outside::MemorySink;
 use device_model::Device;
 use hart_board::Board;
 use std::alloc::Global;
@@ -10,34 +10,16 @@ use std::test::Fail;
 use tool_frame::Status;
 use tool_work::Bench;
 
-// tests/rows/interrupt.img
-pub const FIVE_INPUTS: [u8; 176] = [
-    0x43, 0x4C, 0x43, 0x31, 0, 2, 0, 0, 2, 0, 0, 0, 0x0C, 1, 0, 0, 0x24, 0, 0, 0, 0x6C, 2, 0, 0, 0,
-    0, 0, 0, 0x6C, 2, 0, 0, 0, 0, 0, 0, 0x6C, 2, 0, 0, 0, 0, 0, 0, 0x6C, 2, 0, 0, 0, 0, 0, 0, 0x6C,
-    2, 0, 0, 0, 2, 0, 0, 0x70, 0, 0, 0, 0x37, 1, 1, 0x20, 0x93, 2, 0, 4, 0x73, 0x90, 0x52, 0x30,
-    0x93, 2, 0, 0x10, 0x73, 0x90, 0x72, 0x30, 0x37, 3, 0, 2, 0x93, 2, 0x40, 0, 0x23, 0, 0x53, 0,
-    0x37, 0x13, 0, 2, 0xB7, 2, 2, 0x40, 0x93, 0x82, 2, 0x10, 0x23, 0x26, 0x53, 0, 0x23, 0x2A, 0x53,
-    0, 0xB7, 2, 2, 0xC0, 0x93, 0x82, 2, 0x10, 0x23, 0x2E, 0x53, 0, 0xB7, 2, 2, 0, 0x93, 0x82, 2,
-    0x10, 0x23, 0x22, 0x53, 2, 0xB7, 2, 2, 0x80, 0x93, 0x82, 2, 0x10, 0x23, 0x26, 0x53, 2, 0x73,
-    0x60, 4, 0x30, 0x13, 0, 0, 0, 0x13, 0, 0, 0, 0xB7, 0x32, 0, 0x10, 0x23, 0xA0, 2, 0, 0x67, 0x80,
-    0, 0,
-];
-
-// Its chain under a dispatcher, with inputs 3 and 5 after 23 bodies, and the put of this number failing.
+// The chain of five inputs under a dispatcher, with inputs 3 and 5 after 23 bodies, and the put of this number failing.
 fn chained(
     alloc: Global,
     dispatcher: &str,
     put: u64,
     bench: &mut Bench,
 ) -> Result<(Status, MemorySink), Fail> {
-    let words = words_of(alloc, &["chain", "i.img", "s.txt", dispatcher, "1000"])?;
-    let mut shelf = MemoryShelf::new(alloc);
-    shelf.hold("i.img", &FIVE_INPUTS)?;
-    shelf.hold("s.txt", b"23 line 3 1\n23 line 5 1\n")?;
-    let mut out = MemorySink::new(alloc, 4096)?;
-    out.fail_at(put)?;
-    let status = clic_main(alloc, &words, &mut shelf, bench, &mut out);
-    Ok((status, out))
+    let words = ["chain", "i.img", "s.txt", dispatcher, "1000"];
+    let case = given(&words, &FIVE_INPUTS, b"23 line 3 1\n23 line 5 1\n");
+    answered_on(alloc, &Case { put, ..case }, bench)
 }
 
 // The board has halted, and its last trap was at 25C and saved this mcause.
@@ -84,12 +66,8 @@ fn the_board_of_a_chain(rt: HostRuntime) -> Result<(), Fail> {
 
 // What `gen 0` writes, with the put of this number failing.
 fn generated(alloc: Global, put: u64, bench: &mut Bench) -> Result<(Status, MemorySink), Fail> {
-    let words = words_of(alloc, &["gen", "0"])?;
-    let mut shelf = MemoryShelf::new(alloc);
-    let mut out = MemorySink::new(alloc, 4096)?;
-    out.fail_at(put)?;
-    let status = clic_main(alloc, &words, &mut shelf, bench, &mut out);
-    Ok((status, out))
+    let case = given(&["gen", "0"], b"", b"");
+    answered_on(alloc, &Case { put, ..case }, bench)
 }
 
 fn has_halted<D: Device>(rt: &impl Abort, board: &Option<Board<D>>) {

@@ -6,16 +6,14 @@ mod bench_tests;
 #[cfg(test)]
 mod board_tests;
 #[cfg(test)]
-mod chain_sink_tests;
+mod case;
 mod command;
 #[cfg(test)]
-mod lint_tests;
+mod images;
+#[cfg(test)]
+mod put_tests;
 #[cfg(test)]
 mod shelf_tests;
-#[cfg(test)]
-mod sink_tests;
-#[cfg(test)]
-mod tests;
 
 use board_outside::{FileShelf, StdSink, Words};
 use command::clic_main;
