@@ -8,7 +8,7 @@ use Rattle.tool_frame.specs.Plan.{Makes}
 use Rattle.tool_frame.specs.Answers.{Reaches}
 use Rattle.tool_frame.specs.Code.{OfCommand, OfFile, origin_of}
 use Rattle.tool_frame.specs.declared.status.Status.{Status}
-use Rattle.tool_work.specs.Bench.{Bench}
+use Rattle.tool_work.specs.declared.bench.Bench.{Bench}
 use Rattle.tool_words.specs.Chain.{ChainWords}
 use Rattle.tool_work.specs.Chain.{taken_at, unless_taken, slot_plan, chain_due, chain_left, chain_made, status_of, chain_plan}
 use Rattle.tool_words.specs.Order.{Order, Chains}

@@ -10,7 +10,8 @@ use Rattle.tool_frame.specs.Answers.{Reaches, FollowsWith}
 use Rattle.tool_frame.specs.declared.status.Status.{Status}
 use Rattle.tool_frame.specs.declared.status.Status.TheVariants.{Done}
 use Rattle.tool_frame.proofs.Causes.{settled_own}
-use Rattle.tool_work.specs.Bench.{Bench, empty_bench}
+use Rattle.tool_work.specs.declared.bench.Bench.{Bench}
+use Rattle.tool_work.specs.Bench.{empty_bench}
 use Rattle.tool_work.specs.Chain.{status_of}
 use Rattle.tool_words.specs.Gen.{GenWords}
 use Rattle.tool_work.specs.Gen.{gen_end, deciding, gen_decides, gen_plan}

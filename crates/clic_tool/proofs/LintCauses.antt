@@ -18,7 +18,8 @@ use Rattle.tool_frame.specs.declared.status.Status.{Status}
 use Rattle.tool_frame.specs.declared.status.Status.TheVariants.{Done, Usage, Rejected}
 use Rattle.tool_frame.proofs.Fits.{IsAtOnce}
 use Rattle.tool_frame.proofs.Causes.{settled_own, never, passed_on}
-use Rattle.tool_work.specs.Bench.{Bench, empty_bench}
+use Rattle.tool_work.specs.declared.bench.Bench.{Bench}
+use Rattle.tool_work.specs.Bench.{empty_bench}
 use Rattle.tool_work.specs.Files.{image_limit, image_read, image_stage}
 use Rattle.tool_work.specs.Run.{run_made, run_plan, status_of as run_status}
 use Rattle.tool_work.specs.Chain.{chain_made, chain_plan, status_of as chain_status}

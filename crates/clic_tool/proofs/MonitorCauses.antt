@@ -12,7 +12,8 @@ use Rattle.tool_frame.specs.Answers.{EndsAs, Passes, Reaches, FollowsWith}
 use Rattle.tool_frame.specs.declared.status.Status.{Status}
 use Rattle.tool_frame.specs.declared.status.Status.TheVariants.{Done, SinkFailed, Memory}
 use Rattle.tool_frame.proofs.Causes.{Passed}
-use Rattle.tool_work.specs.Bench.{Bench, empty_bench}
+use Rattle.tool_work.specs.declared.bench.Bench.{Bench}
+use Rattle.tool_work.specs.Bench.{empty_bench}
 use Rattle.tool_work.specs.Files.{image_limit, image_stage, script_limit, script_stage}
 use Rattle.tool_words.specs.Monitor.{MonitorWords}
 use Rattle.tool_work.specs.Monitor.{monitor_due, script_plan, monitor_plan}

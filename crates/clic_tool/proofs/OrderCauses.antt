@@ -16,7 +16,8 @@ use Rattle.tool_frame.specs.declared.status.Status.TheVariants.{Done, BudgetSpen
 use Rattle.tool_frame.proofs.Ends.{misuses}
 use Rattle.tool_frame.proofs.Fits.{IsAtOnce}
 use Rattle.tool_frame.proofs.Causes.{settled_own, never}
-use Rattle.tool_work.specs.Bench.{Bench, empty_bench}
+use Rattle.tool_work.specs.declared.bench.Bench.{Bench}
+use Rattle.tool_work.specs.Bench.{empty_bench}
 use Rattle.tool_words.specs.Run.{RunWords}
 use Rattle.tool_work.specs.Run.{run_made, run_plan}
 use Rattle.tool_words.specs.Chain.{ChainWords}

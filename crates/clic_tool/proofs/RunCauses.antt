@@ -8,7 +8,8 @@ use Rattle.tool_frame.specs.Plan.{Makes}
 use Rattle.tool_frame.specs.Answers.{Reaches}
 use Rattle.tool_frame.specs.Code.{OfCommand, origin_of}
 use Rattle.tool_frame.specs.declared.status.Status.{Status}
-use Rattle.tool_work.specs.Bench.{Bench, empty_bench}
+use Rattle.tool_work.specs.declared.bench.Bench.{Bench}
+use Rattle.tool_work.specs.Bench.{empty_bench}
 use Rattle.tool_words.specs.Run.{RunWords}
 use Rattle.tool_work.specs.Run.{run_due, run_made, status_of, run_plan}
 use Rattle.tool_words.specs.Order.{Order, Runs}

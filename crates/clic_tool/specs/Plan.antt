@@ -2,7 +2,8 @@
 use Rattle.std.specs.Prelude.{Option, Some, None}
 use Rattle.tool_frame.specs.Due.{usage_due}
 use Rattle.tool_frame.specs.Plan.{Plan, Makes}
-use Rattle.tool_work.specs.Bench.{Bench, empty_bench}
+use Rattle.tool_work.specs.declared.bench.Bench.{Bench}
+use Rattle.tool_work.specs.Bench.{empty_bench}
 use Rattle.tool_work.specs.Run.{run_plan}
 use Rattle.tool_work.specs.Chain.{chain_plan}
 use Rattle.tool_work.specs.Monitor.{monitor_plan}
