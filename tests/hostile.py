@@ -833,7 +833,7 @@ def some(task):
 
 
 def main():
-    global PROGRAM
+    global PROGRAM, PATIENCE
     parser = argparse.ArgumentParser(description=__doc__.split('\n')[0])
     parser.add_argument('--files', type=int, default=2000, help='how many files at most')
     parser.add_argument('--seconds', type=float, help='how long at most; 10 where no number of files is named')
@@ -841,7 +841,9 @@ def main():
     parser.add_argument('--first', type=int, default=0, help='the number of the first file')
     parser.add_argument('--jobs', type=int, default=2)
     parser.add_argument('--program', help='another clic_tool, that is built')
+    parser.add_argument('--patience', type=float, default=PATIENCE, help='seconds that a command has; more on a loaded machine')
     words = parser.parse_args()
+    PATIENCE = words.patience
     if words.program:
         PROGRAM = os.path.abspath(words.program)
     elif not shutil.which('rt'):
