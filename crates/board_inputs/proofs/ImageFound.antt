@@ -8,7 +8,7 @@ use Rattle.byteorder.specs.Endian.{little_number, little_bytes}
 use Rattle.hart_memory.specs.Image.{SegmentView, ImageView, AreSound, meets_any}
 use Rattle.hart_memory.specs.declared.image.TheConstants.{MAX_SEGMENTS}
 use Rattle.hart_memory.proofs.ImageLemmas.{sound_push}
-use Rattle.board_inputs.specs.InTurn.{◌>>=◌}
+use Rattle.hart_words.specs.InTurn.{◌>>=◌}
 use Rattle.board_inputs.specs.ImageFile.{IsImageFile, segment_text, segments_text, image_text}
 use Rattle.board_inputs.specs.ImageReading.{at_place, Fault, Gives, is_placed, field_at, magic, magic_at, end_at, segment_at, segments_from, image_of}
 use Rattle.board_inputs.specs.declared.image_why.ImageWhy.TheVariants.{BadMagic, Truncated, OutsideMemory, Overlap, TooMany, Trailing}

@@ -4,7 +4,7 @@ use Rattle.hart_words.specs.Lines.{lines_of, lines_left, left}
 use Rattle.clic_regs.specs.Shape.{ClicShape}
 use Rattle.hart_board.specs.Event.{EventList, last_count}
 use Rattle.hart_board.specs.declared.event.Event.{Event}
-use Rattle.board_inputs.specs.InTurn.{◌>>=◌}
+use Rattle.hart_words.specs.InTurn.{◌>>=◌}
 use Rattle.board_inputs.specs.ScenarioReading.{Fault, in_shape, with_line, with_lines, Becomes, Fails}
 use Rattle.board_inputs.specs.declared.scenario_error.ScenarioError.{ScenarioError}
 use Rattle.board_inputs.specs.declared.scenario_error.ScenarioError.TheVariants.{Memory, Refused}

@@ -5,7 +5,7 @@ use Rattle.std.proofs.lemmas.Bool.{le-ltb, ltb-false, lt-leb, leb-false}
 use Rattle.clic_regs.specs.Shape.{ClicShape}
 use Rattle.hart_board.specs.Event.{EventList, last_count}
 use Rattle.hart_board.specs.declared.event.Event.{Event}
-use Rattle.board_inputs.specs.InTurn.{◌>>=◌}
+use Rattle.hart_words.specs.InTurn.{◌>>=◌}
 use Rattle.board_inputs.specs.Spelling.{IsPassed, Spells}
 use Rattle.board_inputs.specs.ScenarioFile.{file_opening, Tell, AreInOrder, IsScenarioFile, most_events}
 use Rattle.board_inputs.specs.Lines.{meaning_of}

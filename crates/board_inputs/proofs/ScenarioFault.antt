@@ -5,7 +5,7 @@ use Rattle.std.proofs.lemmas.Bool.{ltb-true, ltb-false, leb-true}
 use Rattle.clic_regs.specs.Shape.{ClicShape}
 use Rattle.hart_board.specs.Event.{EventList, last_count}
 use Rattle.hart_board.specs.declared.event.Event.{Event}
-use Rattle.board_inputs.specs.InTurn.{◌>>=◌}
+use Rattle.hart_words.specs.InTurn.{◌>>=◌}
 use Rattle.board_inputs.specs.Spelling.{Spells}
 use Rattle.board_inputs.specs.ScenarioFile.{file_opening, Tell, AreInOrder, most_events}
 use Rattle.board_inputs.specs.FirstWrong.{IsWrong, IsFirstWrong, RefusesFirst}

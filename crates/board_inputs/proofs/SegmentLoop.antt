@@ -3,7 +3,7 @@ use Rattle.std.proofs.Common.{◌≡◌, ℕ, suc, ◌+◌, ◌-◌, ◌<◌, �
 use Rattle.std.specs.Prelude.{nat_lt}
 use Rattle.std.proofs.lemmas.Bool.{le-ltb}
 use Rattle.hart_memory.specs.Image.{SegmentView, ImageView, meets_any}
-use Rattle.board_inputs.specs.InTurn.{◌>>=◌}
+use Rattle.hart_words.specs.InTurn.{◌>>=◌}
 use Rattle.board_inputs.specs.ImageReading.{Fails, Gives, AddsSegment, AddsSegments, is_placed, field_at, end_at, segment_at, segments_from}
 use Rattle.board_inputs.specs.declared.image_error.ImageError.{ImageError}
 use Rattle.board_inputs.specs.declared.image_error.ImageError.TheVariants.{Memory, Refused}

@@ -4,7 +4,7 @@ use Rattle.byteorder.specs.Endian.{little_number}
 use Rattle.hart_memory.specs.Place.{holds}
 use Rattle.hart_memory.specs.Image.{SegmentView, ImageView, meets_any}
 use Rattle.hart_memory.specs.declared.image.TheConstants.{MAX_SEGMENTS}
-use Rattle.board_inputs.specs.InTurn.{◌>>=◌}
+use Rattle.hart_words.specs.InTurn.{◌>>=◌}
 use Rattle.board_inputs.specs.declared.image_why.ImageWhy.{ImageWhy}
 use Rattle.board_inputs.specs.declared.image_why.ImageWhy.TheVariants.{BadMagic, Truncated, OutsideMemory, Overlap, TooMany, Trailing}
 use Rattle.board_inputs.specs.declared.image_error.ImageError.{ImageError}

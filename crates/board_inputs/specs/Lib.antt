@@ -1,4 +1,3 @@
-pub mod InTurn
 pub mod ImageFile
 pub mod ImageReading
 pub mod Spelling

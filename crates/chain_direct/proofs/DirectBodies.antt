@@ -13,7 +13,7 @@ use Rattle.hart_board.specs.Attempt.{attempt}
 use Rattle.hart_board.specs.Step.{step, tried, settled}
 use Rattle.hart_board.specs.Event.{AreEventsFrom, with_events}
 use Rattle.hart_board.specs.declared.event.Event.{Event}
-use Rattle.hart_board.specs.declared.encoding.Encoding.{Encoding}
+use Rattle.rvc_encoding.specs.declared.encoding.Encoding.{Encoding}
 use Rattle.hart_board.proofs.Still.{step_carries_out, tried_retires, tried_raises}
 use Rattle.chain_moves.specs.Slot.{in_slot}
 use Rattle.chain_moves.specs.Servicing.{Live, marks}

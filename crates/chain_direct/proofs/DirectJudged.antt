@@ -17,7 +17,7 @@ use Rattle.hart_board.specs.Attempt.{performed, with_encoding, attempted, attemp
 use Rattle.rvc_encoding.specs.Decoding.{decoded}
 use Rattle.hart_board.specs.declared.event.Event.{Event}
 use Rattle.hart_board.specs.declared.trap.Trap.{Trap}
-use Rattle.hart_board.specs.declared.encoding.Encoding.{Encoding}
+use Rattle.rvc_encoding.specs.declared.encoding.Encoding.{Encoding}
 use Rattle.chain_moves.specs.Slot.{in_slot}
 use Rattle.chain_moves.specs.Servicing.{marks, innermost_level}
 use Rattle.chain_moves.specs.Bytes.{some_byte, is_hidden}

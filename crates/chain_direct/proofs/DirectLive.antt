@@ -13,7 +13,7 @@ use Rattle.hart_board.specs.Run.{Stand}
 use Rattle.hart_board.specs.Event.{AreEventsFrom}
 use Rattle.hart_board.specs.declared.event.Event.{Event}
 use Rattle.hart_report.specs.declared.stepped.Stepped.TheVariants.{Interrupted, Retired, Raised}
-use Rattle.hart_board.specs.declared.encoding.Encoding.{Encoding}
+use Rattle.rvc_encoding.specs.declared.encoding.Encoding.{Encoding}
 use Rattle.chain_moves.specs.Slot.{in_slot}
 use Rattle.chain_moves.specs.Servicing.{marks}
 use Rattle.chain_moves.specs.Bytes.{revived_at}

@@ -16,7 +16,7 @@ use Rattle.hart_board.specs.Attempt.{attempt}
 use Rattle.hart_board.specs.Run.{Stand}
 use Rattle.hart_board.specs.Steps.{board_at, told_at}
 use Rattle.hart_board.specs.declared.event.Event.{Event}
-use Rattle.hart_board.specs.declared.encoding.Encoding.{Encoding}
+use Rattle.rvc_encoding.specs.declared.encoding.Encoding.{Encoding}
 use Rattle.hart_board.specs.declared.trap.Trap.{Trap}
 use Rattle.chain_moves.specs.Slot.{call}
 use Rattle.chain_core.specs.Walk.{walked}

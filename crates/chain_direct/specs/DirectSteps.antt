@@ -10,7 +10,7 @@ use Rattle.hart_board.specs.Step.{Turn, step, tried}
 use Rattle.hart_board.specs.Event.{with_events}
 use Rattle.hart_board.specs.declared.event.Event.{Event}
 use Rattle.hart_board.specs.declared.trap.Trap.{Trap}
-use Rattle.hart_board.specs.declared.encoding.Encoding.{Encoding}
+use Rattle.rvc_encoding.specs.declared.encoding.Encoding.{Encoding}
 use Rattle.chain_moves.specs.Slot.{in_slot}
 use Rattle.chain_moves.specs.Bytes.{revived_at}
 use Rattle.chain_moves.specs.Machine.{Before, Within, After, Makes, Breaks}

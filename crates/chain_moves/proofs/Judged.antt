@@ -24,7 +24,7 @@ use Rattle.rvc_encoding.specs.Decoding.{decoded}
 use Rattle.hart_board.specs.declared.event.Event.{Event}
 use Rattle.hart_board.specs.declared.trap.Trap.{Trap}
 use Rattle.hart_board.specs.declared.trap.TheConstants.{FETCH_FAULT, LOAD_MISALIGNED, STORE_MISALIGNED}
-use Rattle.hart_board.specs.declared.encoding.Encoding.{Encoding}
+use Rattle.rvc_encoding.specs.declared.encoding.Encoding.{Encoding}
 use Rattle.chain_moves.specs.Slot.{in_slot}
 use Rattle.chain_moves.specs.Servicing.{Servicing, marks, is_foreground}
 use Rattle.chain_moves.specs.Bytes.{some_byte, is_hidden, in_live_frame, revived_at}

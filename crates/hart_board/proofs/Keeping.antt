@@ -34,7 +34,7 @@ use Rattle.hart_board.specs.Attempt.{after_load, after_store, after_system, with
 use Rattle.rvc_encoding.specs.Decoding.{decoded}
 use Rattle.hart_board.specs.Step.{step, turn_or_halted, turn_by, settled, raised, entered_at}
 use Rattle.hart_board.specs.declared.trap.Trap.{Trap}
-use Rattle.hart_board.specs.declared.encoding.Encoding.{Encoding}
+use Rattle.rvc_encoding.specs.declared.encoding.Encoding.{Encoding}
 
 -- what is said of states holds after the instruction at pc, however it changes this one
 pub record Does (P : State → Type 0) (m : Meanings) (s : State) (ins : Ins) (length : ℕ) : Type 0 where

@@ -16,7 +16,7 @@ use Rattle.hart_board.specs.Attempt.{attempt}
 use Rattle.hart_board.specs.Step.{Turn, step, tried, turn_or_halted, turn_by, settled, entered_at, kept_if_raised}
 use Rattle.hart_board.specs.Kinds.{FindsNoVector}
 use Rattle.hart_board.specs.declared.trap.Trap.{Trap}
-use Rattle.hart_board.specs.declared.encoding.Encoding.{Encoding}
+use Rattle.rvc_encoding.specs.declared.encoding.Encoding.{Encoding}
 use Rattle.hart_report.specs.declared.stepped.Stepped.{Stepped}
 use Rattle.hart_report.specs.declared.stepped.Stepped.TheVariants.{Retired, Interrupted, Raised, Halted, VectorFault}
 use Rattle.hart_board.proofs.OneKind.{by_nothing, not_halted}

@@ -47,7 +47,7 @@ use Rattle.hart_board.specs.declared.what.What.{What}
 use Rattle.hart_board.specs.declared.event.Event.{Event}
 use Rattle.hart_board.specs.Valid.{IsBoard}
 use Rattle.hart_board.specs.declared.trap.Trap.{Trap}
-use Rattle.hart_board.specs.declared.encoding.Encoding.{Encoding}
+use Rattle.rvc_encoding.specs.declared.encoding.Encoding.{Encoding}
 use Rattle.hart_report.specs.declared.stepped.Stepped.{Stepped}
 use Rattle.hart_report.specs.declared.stepped.Stepped.TheVariants.{Retired, Interrupted, Raised, Halted, VectorFault}
 use Rattle.hart_board.proofs.Keeping.{Does, Holds, step_holds}

@@ -11,7 +11,7 @@ ghost use Rattle.clic_trap.specs.Due.{due};
 ghost use Rattle.hart_board.specs.Attempt.{attempt};
 ghost use Rattle.hart_board.specs.Valid.{IsBoard};
 ghost use Rattle.hart_board.specs.declared.trap.Trap.{Trap};
-ghost use Rattle.hart_board.specs.declared.encoding.Encoding.{Encoding};
+ghost use Rattle.rvc_encoding.specs.declared.encoding.Encoding.{Encoding};
 ghost use Rattle.hart_board.specs.Event.{is_free, IsInput, AreEventsFrom, applied, arrived, with_events};
 ghost use Rattle.hart_board.specs.Run.{run_of, steps_of};
 ghost use Rattle.hart_board.specs.Steps.{EndsAs, board_at, told_to};

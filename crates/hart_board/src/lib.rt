@@ -5,7 +5,6 @@
 mod ahead;
 mod arrivals;
 mod board;
-mod encoding;
 mod event;
 mod events;
 pub mod laws;
@@ -24,7 +23,6 @@ mod what;
 pub use ahead::Ahead;
 pub use arrivals::{take_due, take_events};
 pub use board::Board;
-pub use encoding::Encoding;
 pub use event::Event;
 pub use events::Events;
 pub use hart_report::{DeadBytes, NoDeadBytes, Stepped, put_output, put_ram};

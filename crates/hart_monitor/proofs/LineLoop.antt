@@ -1,7 +1,7 @@
 -- Reading line by line.
 use Rattle.std.proofs.Common.{◌≡◌, ℕ, ◌+◌, ◌≤◌, List, ◌∷◌, length, Option, Some, None, Result, Ok, refl, sym, ◌∙◌, arith}
 use Rattle.hart_words.specs.Lines.{lines_of, lines_left, left}
-use Rattle.board_inputs.specs.InTurn.{◌>>=◌}
+use Rattle.hart_words.specs.InTurn.{◌>>=◌}
 use Rattle.hart_monitor.specs.ScriptReading.{Fault, with_line, with_lines, Becomes, Fails}
 use Rattle.hart_monitor.specs.declared.command.Command.{Command}
 use Rattle.hart_monitor.specs.declared.script_error.ScriptError.{ScriptError}

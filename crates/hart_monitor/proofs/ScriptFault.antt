@@ -3,7 +3,7 @@ use Rattle.std.proofs.Common.{◌≡◌, ℕ, ◌+◌, ◌≤◌, List, [], ◌�
 use Rattle.std.specs.Prelude.{nat_le, IfErr}
 use Rattle.std.proofs.lemmas.Bool.{false≢true, leb-true}
 use Rattle.hart_words.specs.Lines.{lines_of}
-use Rattle.board_inputs.specs.InTurn.{◌>>=◌}
+use Rattle.hart_words.specs.InTurn.{◌>>=◌}
 use Rattle.board_inputs.specs.Opening.{is_passed}
 use Rattle.board_inputs.proofs.LinePassed.{passed_test}
 use Rattle.hart_monitor.specs.Spelling.{Spells}

@@ -3,7 +3,7 @@ use Rattle.std.proofs.Common.{◌≡◌, ℕ, ◌+◌, ◌<◌, ◌≤◌, List,
 use Rattle.std.specs.Prelude.{nat_le, IfOk, ◌⊎◌}
 use Rattle.std.proofs.lemmas.Bool.{lt-leb, leb-false}
 use Rattle.hart_words.specs.Lines.{lines_of}
-use Rattle.board_inputs.specs.InTurn.{◌>>=◌}
+use Rattle.hart_words.specs.InTurn.{◌>>=◌}
 use Rattle.board_inputs.specs.Opening.{is_passed}
 use Rattle.board_inputs.specs.Spelling.{IsPassed}
 use Rattle.board_inputs.proofs.LinePassed.{test_passed, passed_test}

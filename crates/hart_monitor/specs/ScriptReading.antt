@@ -1,7 +1,7 @@
 -- What reading a script line by line gives: its commands, or the first thing that is wrong, with its line.
 use Rattle.std.specs.Prelude.{◌≡◌, ℕ, ◌+◌, List, [], ◌∷◌, ◌++◌, length, nat_le, Option, Some, None, if◌then◌else◌, Result, Ok, Err}
 use Rattle.hart_words.specs.Lines.{lines_of}
-use Rattle.board_inputs.specs.InTurn.{◌>>=◌}
+use Rattle.hart_words.specs.InTurn.{◌>>=◌}
 use Rattle.board_inputs.specs.Opening.{is_passed}
 use Rattle.hart_monitor.specs.Lines.{command_of}
 use Rattle.hart_monitor.specs.ScriptFile.{most_commands}

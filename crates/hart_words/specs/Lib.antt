@@ -8,3 +8,4 @@ pub mod Hexadecimal
 pub mod Decimal
 pub mod Cuts
 pub mod Lines
+pub mod InTurn

@@ -9,7 +9,8 @@ use Rattle.asm_forms.specs.Statements.{Task, Fits, Reading, reading}
 use Rattle.rv_assembler.specs.Symbols.{Symbol, with_label}
 use Rattle.rv_assembler.specs.Laying.{Laid, nothing_laid, laid, shut, is_full, grown, overlaps}
 use Rattle.rv_assembler.specs.Placing.{Follows, AllFollow, total, CanBeCut}
-use Rattle.rv_assembler.specs.Source.{◌>>=◌, at_line, pass, Passed, laid_by, first_read, first_line, Built, nothing_built, resolved, reached, second_by, task_in, task_of, second_line}
+use Rattle.hart_words.specs.InTurn.{◌>>=◌}
+use Rattle.rv_assembler.specs.Source.{at_line, pass, Passed, laid_by, first_read, first_line, Built, nothing_built, resolved, reached, second_by, task_in, task_of, second_line}
 use Rattle.asm_forms.specs.declared.operation.Operation.{Operation}
 use Rattle.rv_assembler.specs.declared.stretch.Stretch.{Stretch}
 use Rattle.asm_forms.specs.declared.extent.Extent.{Extent}

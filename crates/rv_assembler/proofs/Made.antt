@@ -20,7 +20,8 @@ use Rattle.rv_assembler.specs.Lines.{lines_of}
 use Rattle.rv_assembler.specs.Symbols.{Symbol, address_of, defined_by, with_label}
 use Rattle.rv_assembler.specs.Laying.{Laid, laid, shut, is_full, grown, grow, are_apart, overlaps, Ends}
 use Rattle.rv_assembler.specs.Placing.{Follows, AllFollow}
-use Rattle.rv_assembler.specs.Source.{◌>>=◌, Refusal, refuse, at_line, pass, Passed, nothing_passed, laid_by, with_laying, first_read, first_line, Built, nothing_built, resolved, reached, with_operation, second_by, task_of, second_line, Program, image_of, ended, of_lines, assembled}
+use Rattle.hart_words.specs.InTurn.{◌>>=◌}
+use Rattle.rv_assembler.specs.Source.{Refusal, refuse, at_line, pass, Passed, nothing_passed, laid_by, with_laying, first_read, first_line, Built, nothing_built, resolved, reached, with_operation, second_by, task_of, second_line, Program, image_of, ended, of_lines, assembled}
 use Rattle.rv_assembler.specs.Relation.{IsLabelled, IsDone, extent_by, AreLines, label_in, labels_in, entry_kind, entry_in, entries, extents, stretches, filled, stretch_of, IsSource}
 use Rattle.rv_assembler.specs.declared.stretch.Stretch.{Stretch}
 use Rattle.rv_assembler.specs.declared.assembling.TheConstants.{MAX_SOURCE}

@@ -2,7 +2,8 @@
 use Rattle.std.proofs.Common.{◌≡◌, ℕ, ◌+◌, ◌≤◌, List, ◌∷◌, length, map, Option, Some, None, Result, Ok, refl, sym, ap, ◌∙◌, arith}
 use Rattle.hart_words.specs.Lines.{lines_of as text_lines, lines_left, left}
 use Rattle.rv_assembler.specs.Lines.{lines_of, without_return}
-use Rattle.rv_assembler.specs.Source.{◌>>=◌, at_line, pass, Refusal}
+use Rattle.hart_words.specs.InTurn.{◌>>=◌}
+use Rattle.rv_assembler.specs.Source.{at_line, pass, Refusal}
 use Rattle.rv_assembler.specs.Answers.{Fails}
 use Rattle.asm_forms.specs.declared.asm_why.AsmWhy.{AsmWhy}
 use Rattle.rv_assembler.specs.declared.asm_error.AsmError.{AsmError}

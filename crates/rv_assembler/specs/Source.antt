@@ -2,6 +2,7 @@
 use Rattle.std.specs.Prelude.{ℕ, ◌+◌, ◌-◌, ◌%◌, ◌^◌, nat_lt, cond, List, [], ◌∷◌, ◌++◌, length, take, drop, Option, Some, None}
 use Rattle.std.specs.declared.result.Result.{Result}
 use Rattle.std.specs.declared.result.Result.TheVariants.{Ok, Err}
+use Rattle.hart_words.specs.InTurn.{◌>>=◌}
 use Rattle.hart_memory.specs.Image.{SegmentView, ImageView}
 use Rattle.asm_fields.specs.Operands.{Number, Given, Absolute, Near, NearLabel}
 use Rattle.asm_forms.specs.Operations.{made, operation_fits, extent_of, bytes_of}
@@ -17,11 +18,6 @@ use Rattle.asm_forms.specs.declared.extent.Extent.TheVariants.{Org as OrgExtent,
 use Rattle.asm_forms.specs.declared.asm_why.AsmWhy.{AsmWhy}
 use Rattle.asm_forms.specs.declared.asm_why.AsmWhy.TheVariants.{UnknownLabel, OutOfReach, NoEntry, TooLarge}
 use Rattle.rv_assembler.specs.declared.assembling.TheConstants.{MAX_SOURCE}
-
-infixl 10 ◌>>=◌
-abbrev pub ◌>>=◌ : {A B E : Type 0} → Result A E → (A → Result B E) → Result B E
-(Ok x) >>= f = f x
-(Err e) >>= f = Err e
 
 pub record Refusal : Type 0 where
   pub line : ℕ

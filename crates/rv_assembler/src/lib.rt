@@ -18,7 +18,6 @@ mod symbols;
 mod tests;
 
 pub use asm_error::AsmError;
-pub use asm_forms::AsmWhy;
 pub use assembled::Assembled;
 pub use assembling::{MAX_SOURCE, assemble};
 pub use stretch::Stretch;

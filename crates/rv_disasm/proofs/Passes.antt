@@ -12,7 +12,8 @@ use Rattle.asm_forms.specs.Operations.{operation_fits, bytes_of, made}
 use Rattle.asm_forms.specs.Statements.{Reading, reading}
 use Rattle.rv_assembler.specs.Symbols.{Symbol}
 use Rattle.rv_assembler.specs.Laying.{Laid, laid, is_full, grown, overlaps, shut}
-use Rattle.rv_assembler.specs.Source.{◌>>=◌, at_line, pass, Refusal, Passed, with_laying, first_read, first_line, Built, reached, moved, entry_by, with_operation, second_by, task_of, second_line}
+use Rattle.hart_words.specs.InTurn.{◌>>=◌}
+use Rattle.rv_assembler.specs.Source.{at_line, pass, Refusal, Passed, with_laying, first_read, first_line, Built, reached, moved, entry_by, with_operation, second_by, task_of, second_line}
 use Rattle.asm_forms.specs.declared.asm_why.AsmWhy.{AsmWhy}
 use Rattle.asm_forms.specs.declared.operation.Operation.{Operation}
 use Rattle.asm_forms.specs.declared.extent.Extent.{Extent}

@@ -11,7 +11,8 @@ use Rattle.hart_memory.specs.Memory.{AreBytes}
 use Rattle.hart_memory.specs.declared.image.TheConstants.{MAX_SEGMENTS}
 use Rattle.rv_assembler.specs.Laying.{Laid, laid, grow, shut, are_apart, overlaps}
 use Rattle.asm_forms.specs.Operations.{bytes_of}
-use Rattle.rv_assembler.specs.Source.{◌>>=◌, Built, entry_by}
+use Rattle.hart_words.specs.InTurn.{◌>>=◌}
+use Rattle.rv_assembler.specs.Source.{Built, entry_by}
 use Rattle.rv_assembler.specs.Relation.{stretch_of}
 use Rattle.rv_assembler.specs.declared.stretch.Stretch.{Stretch}
 use Rattle.asm_forms.specs.declared.extent.Extent.TheVariants.{Takes}

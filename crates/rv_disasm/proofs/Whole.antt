@@ -14,7 +14,8 @@ use Rattle.hart_memory.specs.Image.{SegmentView, ImageView, is_apart, IsPlaced, 
 use Rattle.rv_assembler.specs.Laying.{are_apart, overlaps, shut, laid}
 use Rattle.rv_assembler.specs.Lines.{lines_of}
 use Rattle.asm_forms.specs.Operations.{bytes_of}
-use Rattle.rv_assembler.specs.Source.{◌>>=◌, pass, Passed, Built, Refusal, Program, with_laying, nothing_passed, nothing_built, second_line, cut_segments, image_of, ended, of_lines, assembled}
+use Rattle.hart_words.specs.InTurn.{◌>>=◌}
+use Rattle.rv_assembler.specs.Source.{pass, Passed, Built, Refusal, Program, with_laying, nothing_passed, nothing_built, second_line, cut_segments, image_of, ended, of_lines, assembled}
 use Rattle.rv_assembler.specs.declared.assembling.TheConstants.{MAX_SOURCE}
 use Rattle.rv_assembler.specs.declared.stretch.Stretch.{Stretch}
 use Rattle.rv_disasm.specs.Shown.{row_for}

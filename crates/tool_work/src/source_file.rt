@@ -2,7 +2,8 @@
 ghost use Rattle.std.specs.Prelude.{◌≡◌, ◌≤◌, length};
 ghost use Rattle.tool_work.specs.Files.{source_why};
 
-use rv_assembler::{AsmError, AsmWhy, Assembled, MAX_SOURCE, assemble};
+use asm_forms::AsmWhy;
+use rv_assembler::{AsmError, Assembled, MAX_SOURCE, assemble};
 use std::alloc::Global;
 use tool_frame::{FileKind, Stop, line_of_refusal};
 
