@@ -17,6 +17,7 @@ use Rattle.chain_moves.specs.Watched.{Watched, watched_of}
 use Rattle.chain_moves.specs.Judge.{judge_turn}
 use Rattle.chain_moves.specs.Beside.{Rest, board_of}
 use Rattle.chain_core.specs.Progress.{Progress}
+use Rattle.chain_core.specs.Fitting.{EntersFit, FusesFit}
 use Rattle.chain_core.specs.Rounds.{round_due, round_unless_halted, round}
 use Rattle.chain_moves.specs.Cost.{leave_cost}
 use Rattle.chain_moves.specs.Start.{begun}
@@ -76,7 +77,7 @@ module _ (m : Meanings) (es : List Event) (sound : IsSoundDevice m) (from : ℕ)
     deep : length s.live ≤ innermost_level (marks s.live)
     deep = depth_below s.live st.related.serves.rising
 
-    pub enter_room : (frame : ℕ) → judge_turn d p.board w ≡ Enter (Admitted frame) → (length w.live < 255) × (RAM_BASE ≤ frame) × (frame + frame_size ≤ RAM_BASE + BANK_LEN)
+    pub enter_room : EntersFit w (judge_turn d p.board w)
     enter_room frame e =
         let u = at_turn (Enter (Admitted frame)) e in
         let is_top = u.1 in
@@ -84,19 +85,21 @@ module _ (m : Meanings) (es : List Event) (sound : IsSoundDevice m) (from : ℕ)
         let small = (top_is_choice s.outside.clic u.0 st.related.serves.range.board.outside.clic is_top).level in
         let fit = passes s u.0 u.3.1 in
         let is = u.3.0 in
-        (omega (arith, many, deep, over, small), subst (λ f. RAM_BASE ≤ f) (sym is) fit.low, subst (λ f. f + frame_size ≤ RAM_BASE + BANK_LEN) (sym is) fit.high)
+        let room : length w.live < 255 = omega (arith, many, deep, over, small) in
+        (room, subst (λ f. RAM_BASE ≤ f) (sym is) fit.low, subst (λ f. f + frame_size ≤ RAM_BASE + BANK_LEN) (sym is) fit.high)
 
     some_live : (live : List Live) (v : Live) (vs : List Live) → live ≡ v ∷ vs → 0 < length live
     some_live live v vs e = let n : length live ≡ suc (length vs) = ap length e in omega (arith, n)
 
-    pub fuse_room : (frame : ℕ) → judge_turn d p.board w ≡ Fuse (Admitted frame) → (0 < length w.live) × (length w.live ≤ 255) × (RAM_BASE ≤ frame) × (frame + frame_size ≤ RAM_BASE + BANK_LEN)
+    pub fuse_room : FusesFit w (judge_turn d p.board w)
     fuse_room frame e =
         let u = at_turn (Fuse (Admitted frame)) e in
         let some = some_live s.live u.leaves.innermost u.leaves.others u.leaves.is_live in
         let small = innermost_small s.live st.related.serves.range.live in
         let fit = passes (left s u.leaves.innermost u.leaves.others) u.choice u.enters.1 in
         let is = u.enters.0 in
-        (omega (arith, many, some), omega (arith, many, deep, small), subst (λ f. RAM_BASE ≤ f) (sym is) fit.low, subst (λ f. f + frame_size ≤ RAM_BASE + BANK_LEN) (sym is) fit.high)
+        let most : length w.live ≤ 255 = omega (arith, many, deep, small) in
+        (omega (arith, many, some), most, subst (λ f. RAM_BASE ≤ f) (sym is) fit.low, subst (λ f. f + frame_size ≤ RAM_BASE + BANK_LEN) (sym is) fit.high)
 
   by_halt : (o : Option ℕ) → m.halted s.outside.device ≡ o → MeansFrom m es from d bound b start at n (round_unless_halted m es d (bound - n) p w o)
   by_halt None e = running e

@@ -4,6 +4,7 @@ pub mod Counts
 pub mod Walk
 pub mod Progress
 pub mod Text
+pub mod Fitting
 pub mod Rounds
 pub mod Chain
 pub mod Both

@@ -22,9 +22,13 @@ use Rattle.chain_core.specs.declared.chain_end.ChainEnd.TheVariants.{Done, Budge
 
 -- ---- steps and services
 
--- a service begins: its number, level and depth
+-- a service of some sort begins: its mark, number, level and depth
+unfoldable pub begun_line : List ℕ → ℕ → ℕ → ℕ → List ℕ
+begun_line mark number level depth = mark ++ decimal number ++ codes " " ++ decimal level ++ codes " " ++ decimal depth ++ codes "\n"
+
+-- a chained one
 unfoldable pub service_line : ℕ → ℕ → ℕ → List ℕ
-service_line number level depth = codes "s " ++ decimal number ++ codes " " ++ decimal level ++ codes " " ++ decimal depth ++ codes "\n"
+service_line number level depth = begun_line (codes "s ") number level depth
 
 -- the line of the service that begins with a step: with the dispatcher's call
 abbrev pub call_text : ℕ → State → Bool → List ℕ

@@ -19,3 +19,4 @@ pub use course::Course;
 pub use ended::Ended;
 pub use ending::put_end;
 pub use round::Round;
+pub use telling::put_begun;

@@ -1,8 +1,6 @@
 // Rounds of a chain: the move that is due, or a Leave with the Enter that it is fused with.
-ghost use Rattle.std.specs.Prelude.{◌≡◌, ℕ, ◌+◌, ◌<◌, ◌≤◌, false, length, nat_le, IfOk, None};
+ghost use Rattle.std.specs.Prelude.{◌≡◌, ℕ, false, nat_le, IfOk, None};
 ghost use Rattle.hart_memory.specs.Place.{place};
-ghost use Rattle.hart_memory.specs.declared.address_map.TheConstants.{RAM_BASE, BANK_LEN};
-ghost use Rattle.chain_moves.specs.Slot.{frame_size};
 ghost use Rattle.chain_moves.specs.Bytes.{revived_at};
 ghost use Rattle.chain_moves.specs.Cost.{body_cost, enter_cost, leave_cost, fused_leave_cost};
 ghost use Rattle.chain_moves.specs.Servicing.{is_foreground};
@@ -14,9 +12,8 @@ ghost use Rattle.clic_trap.specs.Due.{due};
 ghost use Rattle.hart_board.specs.Prepared.{IsPrepared};
 ghost use Rattle.hart_board.specs.Step.{tried};
 ghost use Rattle.chain_core.specs.Progress.{progress_of, HasRoom, IsOnCourse};
+ghost use Rattle.chain_core.specs.Fitting.{HasPlace, HasPlaceAfter, EntersFit, FusesFit};
 ghost use Rattle.chain_core.specs.Rounds.{mark_at, fused_cost, round_enter, round_leave, round_parted, round_fused, round_body, round_entry, round_fuse, round_verdict, round_due, retired_round, halted_round, round, IsMade};
-ghost use Rattle.chain_moves.specs.declared.watch.TheConstants.{MAX_LIVE};
-ghost use Rattle.chain_moves.specs.declared.turn.Turn.TheVariants.{Enter, Fuse};
 ghost use Rattle.chain_moves.specs.declared.entry.Entry.TheVariants.{Admitted};
 
 use crate::course::Course;
@@ -61,8 +58,7 @@ fn begin<D: Device, W: Sink>(
     left: u64,
     frame: u32,
 ) -> Result<Round, SinkFault>
-    requires depth { length watch.old.live < MAX_LIVE }
-    requires frame { (RAM_BASE ≤ frame) × (frame + frame_size ≤ RAM_BASE + BANK_LEN) }
+    requires place { HasPlace watch.old frame }
     requires room { HasRoom course.old left }
     requires course { IsOnCourse D.means events.now board.old course.old }
     ensures course { IsOnCourse D.means events.now board.new course.new }
@@ -140,8 +136,7 @@ fn go_over<D: Device, W: Sink>(
     left: u64,
     frame: u32,
 ) -> Result<Round, SinkFault>
-    requires depth { (0 < length watch.old.live) × (length watch.old.live ≤ MAX_LIVE) }
-    requires frame { (RAM_BASE ≤ frame) × (frame + frame_size ≤ RAM_BASE + BANK_LEN) }
+    requires place { HasPlaceAfter watch.old frame }
     requires room { HasRoom course.old left }
     requires course { IsOnCourse D.means events.now board.old course.old }
     ensures course { IsOnCourse D.means events.now board.new course.new }
@@ -226,7 +221,7 @@ fn enter<D: Device, W: Sink>(
     left: u64,
     entry: Entry,
 ) -> Result<Round, SinkFault>
-    requires fits { (frame : ℕ) → entry ≡ Admitted frame → (length watch.old.live < MAX_LIVE) × (RAM_BASE ≤ frame) × (frame + frame_size ≤ RAM_BASE + BANK_LEN) }
+    requires fits { (frame : ℕ) → entry ≡ Admitted frame → HasPlace watch.old frame }
     requires room { HasRoom course.old left }
     requires course { IsOnCourse D.means events.now board.old course.old }
     ensures course { IsOnCourse D.means events.now board.new course.new }
@@ -250,7 +245,7 @@ fn fuse<D: Device, W: Sink>(
     left: u64,
     entry: Entry,
 ) -> Result<Round, SinkFault>
-    requires fits { (frame : ℕ) → entry ≡ Admitted frame → (0 < length watch.old.live) × (length watch.old.live ≤ MAX_LIVE) × (RAM_BASE ≤ frame) × (frame + frame_size ≤ RAM_BASE + BANK_LEN) }
+    requires fits { (frame : ℕ) → entry ≡ Admitted frame → HasPlaceAfter watch.old frame }
     requires room { HasRoom course.old left }
     requires course { IsOnCourse D.means events.now board.old course.old }
     ensures course { IsOnCourse D.means events.now board.new course.new }
@@ -353,8 +348,8 @@ fn make<D: Device, W: Sink>(
     left: u64,
     next: Next,
 ) -> Result<Round, SinkFault>
-    requires enters { (frame : ℕ) → turn_of next ≡ Enter (Admitted frame) → (length watch.old.live < MAX_LIVE) × (RAM_BASE ≤ frame) × (frame + frame_size ≤ RAM_BASE + BANK_LEN) }
-    requires fuses { (frame : ℕ) → turn_of next ≡ Fuse (Admitted frame) → (0 < length watch.old.live) × (length watch.old.live ≤ MAX_LIVE) × (RAM_BASE ≤ frame) × (frame + frame_size ≤ RAM_BASE + BANK_LEN) }
+    requires enters { EntersFit watch.old (turn_of next) }
+    requires fuses { FusesFit watch.old (turn_of next) }
     requires room { HasRoom course.old left }
     requires course { IsOnCourse D.means events.now board.old course.old }
     ensures course { IsOnCourse D.means events.now board.new course.new }
@@ -381,8 +376,8 @@ fn dispatch<D: Device, W: Sink>(
     d: Dispatcher,
 ) -> Result<Round, SinkFault>
     requires other { is_body_due board.old watch.old ≡ false }
-    requires enters { (frame : ℕ) → judge_turn d board.old watch.old ≡ Enter (Admitted frame) → (length watch.old.live < MAX_LIVE) × (RAM_BASE ≤ frame) × (frame + frame_size ≤ RAM_BASE + BANK_LEN) }
-    requires fuses { (frame : ℕ) → judge_turn d board.old watch.old ≡ Fuse (Admitted frame) → (0 < length watch.old.live) × (length watch.old.live ≤ MAX_LIVE) × (RAM_BASE ≤ frame) × (frame + frame_size ≤ RAM_BASE + BANK_LEN) }
+    requires enters { EntersFit watch.old (judge_turn d board.old watch.old) }
+    requires fuses { FusesFit watch.old (judge_turn d board.old watch.old) }
     requires room { HasRoom course.old left }
     requires course { IsOnCourse D.means events.now board.old course.old }
     ensures course { IsOnCourse D.means events.now board.new course.new }
@@ -406,8 +401,8 @@ pub fn round<D: Device, W: Sink>(
     out: &mut W,
     left: u64,
 ) -> Result<Round, SinkFault>
-    requires enters { D.means.halted board.old.outside.device ≡ None → (frame : ℕ) → judge_turn d board.old watch.old ≡ Enter (Admitted frame) → (length watch.old.live < MAX_LIVE) × (RAM_BASE ≤ frame) × (frame + frame_size ≤ RAM_BASE + BANK_LEN) }
-    requires fuses { D.means.halted board.old.outside.device ≡ None → (frame : ℕ) → judge_turn d board.old watch.old ≡ Fuse (Admitted frame) → (0 < length watch.old.live) × (length watch.old.live ≤ MAX_LIVE) × (RAM_BASE ≤ frame) × (frame + frame_size ≤ RAM_BASE + BANK_LEN) }
+    requires enters { D.means.halted board.old.outside.device ≡ None → EntersFit watch.old (judge_turn d board.old watch.old) }
+    requires fuses { D.means.halted board.old.outside.device ≡ None → FusesFit watch.old (judge_turn d board.old watch.old) }
     requires room { HasRoom course.old left }
     requires course { IsOnCourse D.means events.now board.old course.old }
     ensures course { IsOnCourse D.means events.now board.new course.new }

@@ -1,13 +1,36 @@
 // The lines that a chain adds to a trace and a report.
 ghost use Rattle.std.specs.Prelude.{◌≡◌, ◌≤◌, ◌++◌, length, is_ok};
 ghost use Rattle.board_outside.specs.Sink.{Writes};
-ghost use Rattle.chain_core.specs.Text.{service_line, kind_name, broken_end, bodies_line};
+ghost use Rattle.chain_core.specs.Text.{begun_line, service_line, kind_name, broken_end, bodies_line};
 
 use board_outside::{Sink, SinkFault};
 use chain_moves::Broken;
 use hart_words::Line;
 
-/// Writes that a service begins: the number of its input, its level and its depth.
+/// Writes that a service begins, after its mark: the number of its input, its level and its depth.
+#[tactic(auto, unfolding(crate::specs::Text::begun_line))]
+pub fn put_begun<W: Sink>(
+    mark: &str,
+    number: u32,
+    level: u8,
+    depth: u64,
+    out: &mut W,
+) -> Result<(), SinkFault>
+    requires { length mark.now ≤ 2 }
+    ensures { Writes (is_ok result) (W.told out.old) (W.told out.new) (begun_line mark.now number level depth) }
+{
+    let mut line = Line::new();
+    line.put_text(mark);
+    line.put_dec(u64::from(number));
+    line.put_text(" ");
+    line.put_dec(u64::from(level));
+    line.put_text(" ");
+    line.put_dec(depth);
+    line.put_text("\n");
+    out.put(line.bytes())
+}
+
+/// Writes that a chained service begins.
 #[tactic(auto, unfolding(crate::specs::Text::service_line))]
 pub fn put_service<W: Sink>(
     number: u16,
@@ -17,15 +40,7 @@ pub fn put_service<W: Sink>(
 ) -> Result<(), SinkFault>
     ensures { Writes (is_ok result) (W.told out.old) (W.told out.new) (service_line number level depth) }
 {
-    let mut line = Line::new();
-    line.put_text("s ");
-    line.put_dec(u64::from(number));
-    line.put_text(" ");
-    line.put_dec(u64::from(level));
-    line.put_text(" ");
-    line.put_dec(depth);
-    line.put_text("\n");
-    out.put(line.bytes())
+    put_begun("s ", u32::from(number), level, depth, out)
 }
 
 // A kind that has no code, by its name.

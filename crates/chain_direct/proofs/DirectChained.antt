@@ -5,11 +5,8 @@ use Rattle.device_model.specs.Meanings.{Meanings, IsSound as IsSoundDevice}
 use Rattle.hart_board.specs.State.{State}
 use Rattle.hart_board.specs.Run.{Stand}
 use Rattle.hart_board.specs.declared.event.Event.{Event}
-use Rattle.hart_memory.specs.declared.address_map.TheConstants.{RAM_BASE, BANK_LEN}
-use Rattle.chain_moves.specs.Slot.{frame_size}
 use Rattle.chain_moves.specs.Judge.{judge_turn}
-use Rattle.chain_moves.specs.declared.turn.Turn.TheVariants.{Enter, Fuse}
-use Rattle.chain_moves.specs.declared.entry.Entry.TheVariants.{Admitted}
+use Rattle.chain_moves.specs.declared.turn.Turn.TheVariants.{Enter}
 use Rattle.chain_moves.specs.Servicing.{Service, Servicing}
 use Rattle.chain_moves.specs.Machine.{Machine}
 use Rattle.chain_moves.specs.Run.{Made, Leads}
@@ -21,6 +18,7 @@ use Rattle.chain_moves.specs.Watched.{Watched}
 use Rattle.chain_moves.specs.Beside.{Rest, board_of}
 use Rattle.chain_moves.specs.Related.{Related}
 use Rattle.chain_core.specs.Progress.{Progress}
+use Rattle.chain_core.specs.Fitting.{EntersFit, FusesFit}
 use Rattle.chain_core.specs.Rounds.{round, steps_made}
 use Rattle.chain_moves.specs.declared.broken.Broken.{Broken}
 use Rattle.chain_moves.specs.declared.dispatcher.Dispatcher.{Dispatcher}
@@ -200,10 +198,10 @@ module _ (m : Meanings) (es : List Event) (sound : IsSoundDevice m) (from : ℕ)
 
     -- what the code has to know of an Enter before it makes it
     module _ (runs : m.halted s.outside.device ≡ None) where
-      pub chained_enters : (frame : ℕ) → judge_turn d p.board w.chained ≡ Enter (Admitted frame) → (length w.chained.live < 255) × (RAM_BASE ≤ frame) × (frame + frame_size ≤ RAM_BASE + BANK_LEN)
+      pub chained_enters : EntersFit w.chained (judge_turn d p.board w.chained)
       unfolding from_here
       chained_enters = enter_room m es sound from d bound b s n p w.chained n from_here runs
 
-      pub chained_fuses : (frame : ℕ) → judge_turn d p.board w.chained ≡ Fuse (Admitted frame) → (0 < length w.chained.live) × (length w.chained.live ≤ 255) × (RAM_BASE ≤ frame) × (frame + frame_size ≤ RAM_BASE + BANK_LEN)
+      pub chained_fuses : FusesFit w.chained (judge_turn d p.board w.chained)
       unfolding from_here
       chained_fuses = fuse_room m es sound from d bound b s n p w.chained n from_here runs

@@ -1,5 +1,5 @@
 -- A round of a chain with direct services keeps step with the machine, or ends as it does; and what it writes.
-use Rattle.std.proofs.Common.{◌≡◌, ℕ, suc, ◌+◌, ◌-◌, ◌<◌, ◌≤◌, Bool, true, false, List, [], ◌++◌, length, Option, Some, None, refl, sym, ap, ap₂, ◌∙◌, subst, arith}
+use Rattle.std.proofs.Common.{◌≡◌, ℕ, suc, ◌+◌, ◌-◌, ◌<◌, ◌≤◌, Bool, true, false, List, [], ◌++◌, Option, Some, None, refl, sym, ap, ap₂, ◌∙◌, subst, arith}
 use Rattle.std.specs.Prelude.{nat_le}
 use Rattle.std.proofs.lemmas.Bool.{leb-false}
 use Rattle.std.proofs.lemmas.List.{append-nil}
@@ -8,7 +8,6 @@ use Rattle.board_outside.proofs.Writing.{then_writes}
 use Rattle.device_model.specs.Meanings.{Meanings, IsSound as IsSoundDevice}
 use Rattle.clic_select.specs.Top.{top}
 use Rattle.clic_select.specs.declared.choice.Choice.{Choice}
-use Rattle.hart_memory.specs.declared.address_map.TheConstants.{RAM_BASE, BANK_LEN}
 use Rattle.hart_report.specs.Trace.{step_text}
 use Rattle.hart_report.proofs.Texts.{same_text}
 use Rattle.hart_board.specs.State.{State}
@@ -17,7 +16,6 @@ use Rattle.hart_board.specs.Run.{Stand}
 use Rattle.hart_board.specs.Steps.{board_at}
 use Rattle.hart_board.specs.declared.event.Event.{Event}
 use Rattle.hart_report.specs.declared.stepped.Stepped.TheVariants.{Interrupted}
-use Rattle.chain_moves.specs.Slot.{frame_size}
 use Rattle.chain_moves.specs.Tests.{first_broken}
 use Rattle.chain_moves.specs.Enter.{is_enter_due, table_address}
 use Rattle.chain_moves.specs.Cost.{body_cost}
@@ -27,12 +25,12 @@ use Rattle.chain_moves.specs.Judge.{judge_turn}
 use Rattle.chain_moves.specs.Beside.{Rest, board_of}
 use Rattle.chain_moves.specs.Related.{Related}
 use Rattle.chain_core.specs.Progress.{Progress, goes, progress_at}
+use Rattle.chain_core.specs.Fitting.{EntersFit, FusesFit}
 use Rattle.chain_core.specs.Text.{turn_text, next_text, steps_text, Cut, Tells}
 use Rattle.chain_core.specs.Rounds.{raised_code, steps_made}
 use Rattle.chain_moves.specs.declared.broken.Broken.{Broken}
 use Rattle.chain_moves.specs.declared.dispatcher.Dispatcher.{Dispatcher}
-use Rattle.chain_moves.specs.declared.turn.Turn.TheVariants.{Enter, Fuse}
-use Rattle.chain_moves.specs.declared.entry.Entry.TheVariants.{Admitted}
+use Rattle.chain_moves.specs.declared.turn.Turn.TheVariants.{Enter}
 use Rattle.chain_moves.specs.declared.verdict.Verdict.TheVariants.{Refused, Plain as Quiet, Reviving}
 use Rattle.chain_core.proofs.OneStep.{masked}
 use Rattle.chain_core.proofs.Standing.{goes_at}
@@ -247,16 +245,16 @@ module _ (m : Meanings) (es : List Event) (sound : IsSoundDevice m) (from : ℕ)
 
   -- ---- what the code has to know of an Enter before it makes it
   module _ (kept : w.kept ≡ None) (runs : m.halted p.board.outside.device ≡ None) where
-    enters_by : (o : Option Direct) → s.direct ≡ o → BesideBy m es from d bound b s.chained x n w.kept o → (frame : ℕ) → judge_turn d p.board w.chained ≡ Enter (Admitted frame) → (length w.chained.live < 255) × (RAM_BASE ≤ frame) × (frame + frame_size ≤ RAM_BASE + BANK_LEN)
+    enters_by : (o : Option Direct) → s.direct ≡ o → BesideBy m es from d bound b s.chained x n w.kept o → EntersFit w.chained (judge_turn d p.board w.chained)
     enters_by None e (related, stands, same) frame = chained_enters m es sound from d bound b p w n st e related stands same (ap (λ (a : State). m.halted a.outside.device) (sym (board_is e related stands same)) ∙ runs) frame
     enters_by (Some v) e (related, stands, same) frame = absurd (not_kept (sym same ∙ kept))
 
-    pub direct_enters : (frame : ℕ) → judge_turn d p.board w.chained ≡ Enter (Admitted frame) → (length w.chained.live < 255) × (RAM_BASE ≤ frame) × (frame + frame_size ≤ RAM_BASE + BANK_LEN)
+    pub direct_enters : EntersFit w.chained (judge_turn d p.board w.chained)
     direct_enters = enters_by s.direct refl st.beside
 
-    fuses_by : (o : Option Direct) → s.direct ≡ o → BesideBy m es from d bound b s.chained x n w.kept o → (frame : ℕ) → judge_turn d p.board w.chained ≡ Fuse (Admitted frame) → (0 < length w.chained.live) × (length w.chained.live ≤ 255) × (RAM_BASE ≤ frame) × (frame + frame_size ≤ RAM_BASE + BANK_LEN)
+    fuses_by : (o : Option Direct) → s.direct ≡ o → BesideBy m es from d bound b s.chained x n w.kept o → FusesFit w.chained (judge_turn d p.board w.chained)
     fuses_by None e (related, stands, same) frame = chained_fuses m es sound from d bound b p w n st e related stands same (ap (λ (a : State). m.halted a.outside.device) (sym (board_is e related stands same)) ∙ runs) frame
     fuses_by (Some v) e (related, stands, same) frame = absurd (not_kept (sym same ∙ kept))
 
-    pub direct_fuses : (frame : ℕ) → judge_turn d p.board w.chained ≡ Fuse (Admitted frame) → (0 < length w.chained.live) × (length w.chained.live ≤ 255) × (RAM_BASE ≤ frame) × (frame + frame_size ≤ RAM_BASE + BANK_LEN)
+    pub direct_fuses : FusesFit w.chained (judge_turn d p.board w.chained)
     direct_fuses = fuses_by s.direct refl st.beside

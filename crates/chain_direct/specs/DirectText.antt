@@ -1,6 +1,5 @@
 -- What a chain with direct services writes, and how it ends.
 use Rattle.std.specs.Prelude.{ℕ, zero, suc, Bool, true, false, List, [], ◌∷◌, ◌++◌, codes}
-use Rattle.hart_words.specs.Decimal.{decimal}
 use Rattle.device_model.specs.Meanings.{Meanings}
 use Rattle.hart_report.specs.Trace.{step_text}
 use Rattle.hart_board.specs.State.{State}
@@ -11,7 +10,7 @@ use Rattle.chain_moves.specs.Servicing.{Service}
 use Rattle.chain_moves.specs.Run.{Run, On, Broke, Over, run_to}
 use Rattle.chain_core.specs.End.{end_at}
 use Rattle.chain_core.specs.declared.ended.Ended.{Ended}
-use Rattle.chain_core.specs.Text.{service_line, report}
+use Rattle.chain_core.specs.Text.{begun_line, service_line, report}
 use Rattle.chain_core.specs.ChainRun.{is_body}
 use Rattle.chain_moves.specs.declared.dispatcher.Dispatcher.{Dispatcher}
 use Rattle.chain_direct.specs.Kind.{Kind}
@@ -23,7 +22,7 @@ use Rattle.chain_direct.specs.DirectRun.{begins_after}
 
 -- a direct service begins: its number, level and depth
 unfoldable pub direct_line : ℕ → ℕ → ℕ → List ℕ
-direct_line number level depth = codes "d " ++ decimal number ++ codes " " ++ decimal level ++ codes " " ++ decimal depth ++ codes "\n"
+direct_line number level depth = begun_line (codes "d ") number level depth
 
 abbrev pub line_by : Service → Bool → List ℕ
 line_by e true = direct_line e.number e.level e.depth

@@ -1,15 +1,12 @@
 // Rounds of a chain with direct services.
-ghost use Rattle.std.specs.Prelude.{◌≡◌, ℕ, ◌+◌, ◌<◌, ◌≤◌, ◌^◌, length, nat_le, is_ok, IfOk, None};
+ghost use Rattle.std.specs.Prelude.{◌≡◌, ◌+◌, ◌<◌, ◌^◌, nat_le, is_ok, IfOk, None};
 ghost use Rattle.hart_memory.specs.Place.{place};
-ghost use Rattle.hart_memory.specs.declared.address_map.TheConstants.{RAM_BASE, BANK_LEN};
-ghost use Rattle.chain_moves.specs.Slot.{frame_size};
 ghost use Rattle.chain_moves.specs.Bytes.{revived_at};
 ghost use Rattle.chain_moves.specs.Cost.{body_cost};
 ghost use Rattle.chain_moves.specs.Judge.{judge_turn};
 ghost use Rattle.chain_core.specs.Progress.{progress_of, HasRoom, IsOnCourse};
+ghost use Rattle.chain_core.specs.Fitting.{EntersFit, FusesFit};
 ghost use Rattle.chain_core.specs.Rounds.{round as chained_round, IsMade};
-ghost use Rattle.chain_moves.specs.declared.turn.Turn.TheVariants.{Enter, Fuse};
-ghost use Rattle.chain_moves.specs.declared.entry.Entry.TheVariants.{Admitted};
 ghost use Rattle.chain_direct.specs.DirectRounds.{hard_due, round_begun, round_begin, round_ended, round_direct_body, round_going, round_direct_due, round_serving, round_chained, BeginTells, IsDirectMade, direct_round};
 
 use crate::direct_judging::{are_same, hard_due, judge_direct_body, test_begin};
@@ -237,8 +234,8 @@ fn chain_on<D: Device, W: Sink>(
     out: &mut W,
     left: u64,
 ) -> Result<Round, SinkFault>
-    requires enters { D.means.halted board.old.outside.device ≡ None → (frame : ℕ) → judge_turn d board.old watch.old.chained ≡ Enter (Admitted frame) → (length watch.old.chained.live < 255) × (RAM_BASE ≤ frame) × (frame + frame_size ≤ RAM_BASE + BANK_LEN) }
-    requires fuses { D.means.halted board.old.outside.device ≡ None → (frame : ℕ) → judge_turn d board.old watch.old.chained ≡ Fuse (Admitted frame) → (0 < length watch.old.chained.live) × (length watch.old.chained.live ≤ 255) × (RAM_BASE ≤ frame) × (frame + frame_size ≤ RAM_BASE + BANK_LEN) }
+    requires enters { D.means.halted board.old.outside.device ≡ None → EntersFit watch.old.chained (judge_turn d board.old watch.old.chained) }
+    requires fuses { D.means.halted board.old.outside.device ≡ None → FusesFit watch.old.chained (judge_turn d board.old watch.old.chained) }
     requires room { HasRoom course.old left }
     requires course { IsOnCourse D.means events.now board.old course.old }
     ensures course { IsOnCourse D.means events.now board.new course.new }
@@ -270,8 +267,8 @@ pub fn direct_round<D: Device, W: Sink>(
     out: &mut W,
     left: u64,
 ) -> Result<Round, SinkFault>
-    requires enters { watch.old.kept ≡ None → hard_due D.means board.old ≡ None → D.means.halted board.old.outside.device ≡ None → (frame : ℕ) → judge_turn d board.old watch.old.chained ≡ Enter (Admitted frame) → (length watch.old.chained.live < 255) × (RAM_BASE ≤ frame) × (frame + frame_size ≤ RAM_BASE + BANK_LEN) }
-    requires fuses { watch.old.kept ≡ None → hard_due D.means board.old ≡ None → D.means.halted board.old.outside.device ≡ None → (frame : ℕ) → judge_turn d board.old watch.old.chained ≡ Fuse (Admitted frame) → (0 < length watch.old.chained.live) × (length watch.old.chained.live ≤ 255) × (RAM_BASE ≤ frame) × (frame + frame_size ≤ RAM_BASE + BANK_LEN) }
+    requires enters { watch.old.kept ≡ None → hard_due D.means board.old ≡ None → D.means.halted board.old.outside.device ≡ None → EntersFit watch.old.chained (judge_turn d board.old watch.old.chained) }
+    requires fuses { watch.old.kept ≡ None → hard_due D.means board.old ≡ None → D.means.halted board.old.outside.device ≡ None → FusesFit watch.old.chained (judge_turn d board.old watch.old.chained) }
     requires room { HasRoom course.old left }
     requires begun { watch.old.begun + left < 2 ^ 64 }
     requires course { IsOnCourse D.means events.now board.old course.old }

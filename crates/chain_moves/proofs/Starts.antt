@@ -10,9 +10,9 @@ use Rattle.chain_moves.specs.Slot.{base, slot_end}
 use Rattle.chain_moves.specs.Start.{with_slot, begun_with, begun}
 
 -- ---- the slot's bytes are replaced
-twice : (rom bytes other : List ℕ) → slot_end ≤ length rom → length bytes ≡ slot_end - base → with_slot other (with_slot bytes rom) ≡ with_slot other rom
+pub slot_twice : (rom bytes other : List ℕ) → slot_end ≤ length rom → length bytes ≡ slot_end - base → with_slot other (with_slot bytes rom) ≡ with_slot other rom
 unfolding with_slot
-twice rom bytes other l n =
+slot_twice rom bytes other l n =
     let front : length (take base rom) ≡ base = omega (arith, length-take base rom) in
     let both : length (take base rom ++ bytes) ≡ slot_end = length-append (take base rom) bytes ∙ omega (arith, front, n) in
     ap₂ (λ low high. low ++ (other ++ high))
@@ -23,4 +23,4 @@ pub starts_same : (m : Meanings) (es : List Event) (b : State) (bytes : List ℕ
     → begun m es (record b { memory = record b.memory { rom = with_slot bytes b.memory.rom } }) ≡ begun m es b
 unfolding begun with_events
 starts_same m es b bytes l n =
-    ap (λ rom. record (begun_with (record b { outside = events_outside m 0 es b.outside })) { memory = record { rom = rom; ram = b.memory.ram } }) (twice b.memory.rom bytes (zeros (slot_end - base)) l n)
+    ap (λ rom. record (begun_with (record b { outside = events_outside m 0 es b.outside })) { memory = record { rom = rom; ram = b.memory.ram } }) (slot_twice b.memory.rom bytes (zeros (slot_end - base)) l n)
