@@ -246,14 +246,14 @@ pub length-zeros : (n : ℕ) → length (zeros n) ≡ n
 unfolding zeros
 length-zeros n = length-replicate n 0
 
-slot_len : (rom bytes : List ℕ) → length rom ≡ BANK_LEN → length bytes ≡ slot_end - base → length (with_slot bytes rom) ≡ BANK_LEN
+pub slot_len : (rom bytes : List ℕ) → length rom ≡ BANK_LEN → length bytes ≡ slot_end - base → length (with_slot bytes rom) ≡ BANK_LEN
 unfolding with_slot
 slot_len rom bytes l n =
     let front : length (take base rom) ≡ base = omega (arith, length-take base rom) in
     let back : length (drop slot_end rom) ≡ BANK_LEN - slot_end = omega (arith, length-drop slot_end rom) in
     length-append (take base rom) (bytes ++ drop slot_end rom) ∙ omega (arith, front, back, length-append bytes (drop slot_end rom))
 
-slot_bytes_small : (rom bytes : List ℕ) → AreBytes rom → AreBytes bytes → AreBytes (with_slot bytes rom)
+pub slot_bytes_small : (rom bytes : List ℕ) → AreBytes rom → AreBytes bytes → AreBytes (with_slot bytes rom)
 unfolding with_slot
 slot_bytes_small rom bytes r b = bytes_append (take base rom) (bytes ++ drop slot_end rom) (bytes_take base rom r) (bytes_append bytes (drop slot_end rom) b (bytes_drop slot_end rom r))
 
