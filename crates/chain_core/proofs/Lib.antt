@@ -22,3 +22,4 @@ pub mod ChainLoop
 pub mod Closed
 pub mod ChainEnds
 pub mod BothRuns
+pub mod OtherSlot

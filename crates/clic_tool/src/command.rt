@@ -19,6 +19,8 @@ ghost use Rattle.tool_words.specs.Order.{Runs, Chains, Monitors, Gens, Lints, Bo
 ghost use Rattle.clic_tool.specs.Plan.{plan_of};
 ghost use Rattle.clic_tool.specs.RunCauses.{RanTo};
 ghost use Rattle.tool_work.specs.Chain.{IsServedTo};
+ghost use Rattle.tool_work.specs.Gen.{AreServed};
+ghost use Rattle.tool_frame.specs.Code.{OfCommand, origin_of};
 ghost use Rattle.clic_tool.specs.ChainCauses.{ChainedTo};
 ghost use Rattle.clic_tool.specs.GenCauses.{GeneratedTo, AreDone};
 ghost use Rattle.clic_tool.specs.MonitorCauses.{WantsInScript};
@@ -43,6 +45,7 @@ fn follow<F: Shelf, W: Sink>(
 ) -> Status
     requires empty { bench.old ≡ empty_bench }
     ensures served { (chain : ChainWords) → view order.now ≡ Chains chain → IsServedTo chain result (F.told shelf.old) (F.told shelf.new) }
+    ensures served_generated { (gen : GenWords) → view order.now ≡ Gens gen → origin_of result ≡ OfCommand → AreServed gen.number_is }
     ensures follows { FollowsWith empty_bench result (plan_of (Some (view order.now))) (F.told shelf.old) (F.told shelf.new) (W.told out.old) (W.told out.new) bench.new }
 {
     match order {
@@ -71,6 +74,7 @@ fn answer<F: Shelf, W: Sink>(
 ) -> Status
     requires empty { bench.old ≡ empty_bench }
     ensures served { (chain : ChainWords) → order_of words.now ≡ Some (Chains chain) → IsServedTo chain result (F.told shelf.old) (F.told shelf.new) }
+    ensures served_generated { (gen : GenWords) → order_of words.now ≡ Some (Gens gen) → origin_of result ≡ OfCommand → AreServed gen.number_is }
     ensures follows { FollowsWith empty_bench result (plan_of (order_of words.now)) (F.told shelf.old) (F.told shelf.new) (W.told out.old) (W.told out.new) bench.new }
 {
     match read_order(alloc, words) {
@@ -95,8 +99,12 @@ pub fn clic_main<F: Shelf, W: Sink>(
     // it leaves.
     ensures command { FollowsWith empty_bench result (plan_of (order_of words.now)) (F.told shelf.old) (F.told shelf.new) (W.told out.old) (W.told out.new) bench.new }
     // A chain that was made had the services of the servicing machine, which knows no dispatcher, and where it was done
-    // the board agrees with that machine in all but dispatch code, dead bytes and what the last trap saved.
+    // the board agrees with that machine in all but dispatch code, dead bytes and what the last trap saved. Where the
+    // chains of its files are done under both dispatchers, chaining handlers without going back between them changed
+    // nothing else, and saved 23 steps for each handler that began straight after another. So it is of both chains of
+    // `gen`.
     ensures served { (chain : ChainWords) → order_of words.now ≡ Some (Chains chain) → IsServedTo chain result (F.told shelf.old) (F.told shelf.new) }
+    ensures served_generated { (gen : GenWords) → order_of words.now ≡ Some (Gens gen) → origin_of result ≡ OfCommand → AreServed gen.number_is }
     // Where no fault was counted, it is what the files give that the shelf holds, unless memory was wanting.
     ensures due { IsCalm (F.told shelf.old).faults (F.told shelf.new).faults → IsCalm (W.told out.old).faults (W.told out.new).faults
         → IfSome (F.told shelf.old).files (λ files. HasDone result (W.told out.old).written (W.told out.new).written (due_of (plan_of (order_of words.now)) files)) }

@@ -16,7 +16,7 @@ use Rattle.tool_frame.specs.declared.status.Status.{Status}
 use Rattle.tool_frame.specs.declared.status.Status.TheVariants.{SinkFailed}
 use Rattle.tool_work.specs.Shipped.{shipped_meanings}
 use Rattle.tool_work.specs.Bench.{Bench, empty_bench}
-use Rattle.tool_work.specs.Chain.{status_of}
+use Rattle.tool_work.specs.Chain.{status_of, IsServed}
 use Rattle.tool_work.specs.Gen.{gen_bound, gen_board, gen_end, gen_after, gen_line, gen_due, gen_left, deciding, gen_decides}
 use Rattle.tool_work.specs.GenEvents.{gen_events}
 use Rattle.tool_work.proofs.RunEnds.{IsWorkStatus}
@@ -37,6 +37,9 @@ pub after_is : (d : Dispatcher) (n : ℕ) (events : EventList) (b : State) {b' :
 unfolding gen_after
 after_is d n events b made at is =
     is ∙ (ap (λ (es : EventList). board_after shipped_meanings es.list d gen_bound b) made ∙ ap (λ (s : State). board_after shipped_meanings (gen_events n).list d gen_bound s) at)
+
+pub served_is : (d : Dispatcher) (n : ℕ) (events : EventList) (b : State) → events ≡ gen_events n → b ≡ gen_board d n → IsServed false d gen_bound events b → IsServed false d gen_bound (gen_events n) (gen_board d n)
+served_is d n events b made at s = subst (λ (t : State). IsServed false d gen_bound (gen_events n) t) at (subst (λ (es : EventList). IsServed false d gen_bound es b) made s)
 
 -- the line was written, or the sink failed
 pub gen_ends : (n : ℕ) (first second : ChainEnd) (written : Bool) {status : Status} {o o' : SinkView} → first ≡ gen_end Looping n → second ≡ gen_end Returning n → status ≡ (if written then status_of (deciding first second) else SinkFailed) → Writes written o o' (gen_line n first second) → Ends status o o' (gen_due n)

@@ -12,12 +12,15 @@ use Rattle.chain_core.specs.ChainRun.{read_to}
 use Rattle.chain_core.specs.End.{services_within}
 use Rattle.chain_core.specs.Chain.{chain_end, board_after, chain_text, machine_run, AgreesWhereDone}
 use Rattle.chain_core.specs.declared.ended.Ended.{Ended}
+use Rattle.chain_core.specs.Both.{BothAgree}
 use Rattle.chain_moves.specs.declared.dispatcher.Dispatcher.{Dispatcher}
+use Rattle.chain_moves.specs.declared.dispatcher.Dispatcher.TheVariants.{Looping, Returning}
 use Rattle.chain_core.specs.declared.chain_end.ChainEnd.{ChainEnd}
 use Rattle.chain_core.specs.declared.chain_end.ChainEnd.TheVariants.{Done as done, BudgetSpent as budget_spent, SinkFailed as sink_failed, Broken as broken}
 use Rattle.chain_direct.specs.DirectMoves.{direct_machine, direct_start}
 use Rattle.chain_direct.specs.DirectText.{direct_end, direct_run, direct_board, direct_text}
 use Rattle.chain_direct.specs.DirectChain.{begun_to, AgreesWhereOver}
+use Rattle.chain_direct.specs.DirectBoth.{BothDirectAgree}
 use Rattle.tool_frame.specs.Due.{Due, at_once}
 use Rattle.tool_frame.specs.Plan.{Plan, Makes, Refuses}
 use Rattle.tool_frame.specs.declared.status.Status.{Status}
@@ -99,9 +102,21 @@ HasItsState false d bound events b = AgreesWhereDone (chain_end shipped_meanings
 HasItsState true d bound events b = AgreesWhereOver (direct_end shipped_meanings events.list d bound b).end (direct_board shipped_meanings events.list d bound b) (direct_run shipped_meanings events.list bound b)
 
 -- the board of a chain does what the servicing machine does, or the one with direct services
-pub record IsServed (chain : ChainWords) (image : ImageView) (events : EventList) : Type 0 where
-  pub services : HasItsServices chain.directs chain.dispatcher_is chain.bound_is events (chain_board chain.dispatcher_is image events)
-  pub state : HasItsState chain.directs chain.dispatcher_is chain.bound_is events (chain_board chain.dispatcher_is image events)
+pub record IsServed (directs : Bool) (d : Dispatcher) (bound : ℕ) (events : EventList) (b : State) : Type 0 where
+  pub services : HasItsServices directs d bound events b
+  pub state : HasItsState directs d bound events b
+
+abbrev pub IsChainServed : ChainWords → ImageView → EventList → Type 0
+IsChainServed chain image events = IsServed chain.directs chain.dispatcher_is chain.bound_is events (chain_board chain.dispatcher_is image events)
+
+-- the chains of an image and its events under both dispatchers: where both are done, whatever their bounds, they made the same moves, and left the same but for dispatch code, dead bytes and what the last trap saved; going back cost 23 steps for each handler that began straight after another
+abbrev pub DoAgree : Bool → ImageView → EventList → Type 0
+DoAgree false image events = (one other steps bodies services more also listed : ℕ)
+    → (ends_by false Looping one events (chain_board Looping image events)).end ≡ done steps bodies services → (ends_by false Returning other events (chain_board Returning image events)).end ≡ done more also listed
+    → BothAgree shipped_meanings events.list (chain_board Looping image events) (chain_board Returning image events) one other steps more bodies also services listed
+DoAgree true image events = (one other steps bodies services more also listed : ℕ)
+    → (ends_by true Looping one events (chain_board Looping image events)).end ≡ done steps bodies services → (ends_by true Returning other events (chain_board Returning image events)).end ≡ done more also listed
+    → BothDirectAgree shipped_meanings events.list (chain_board Looping image events) (chain_board Returning image events) one other steps more bodies also services listed
 
 -- what is due of it
 abbrev pub chain_due : ChainWords → ImageView → EventList → Due
@@ -114,13 +129,14 @@ slot_plan chain image events = unless_taken (taken_at image) (Makes (chain_due c
 abbrev pub chain_plan : ChainWords → Plan Bench
 chain_plan chain = files_plan chain.image_name chain.scenario_name (λ image events. slot_plan chain image events)
 
--- its files were given and passed, the slot was free, and the board did what the servicing machine does
+-- its files were given and passed, the slot was free, the board did what the servicing machine does, and under either dispatcher the same is done
 pub record ServedTo (chain : ChainWords) (shelf shelf' : ShelfView) : Type 0 where
   pub image : ImageView
   pub events : EventList
   pub files : PassesFiles chain.image_name chain.scenario_name shelf shelf' image events
   pub free : taken_at image ≡ None
-  pub served : IsServed chain image events
+  pub served : IsChainServed chain image events
+  pub agree : DoAgree chain.directs image events
 
 -- a chain that was made is one
 abbrev pub IsServedTo : ChainWords → Status → ShelfView → ShelfView → Type 0

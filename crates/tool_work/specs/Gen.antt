@@ -1,5 +1,5 @@
 -- The two chains that the command `gen` makes.
-use Rattle.std.specs.Prelude.{◌≡◌, ℕ, List, ◌++◌, Some, None, codes}
+use Rattle.std.specs.Prelude.{◌≡◌, ℕ, false, List, ◌++◌, Some, None, codes}
 use Rattle.hart_words.specs.Decimal.{decimal}
 use Rattle.hart_board.specs.State.{State}
 use Rattle.hart_board.specs.Event.{EventList}
@@ -15,7 +15,7 @@ use Rattle.tool_frame.specs.Due.{Due, at_once}
 use Rattle.tool_frame.specs.Plan.{Plan, Makes}
 use Rattle.tool_work.specs.Shipped.{shipped_meanings}
 use Rattle.tool_work.specs.Bench.{Bench}
-use Rattle.tool_work.specs.Chain.{chain_board, status_of}
+use Rattle.tool_work.specs.Chain.{chain_board, status_of, IsServed, DoAgree}
 use Rattle.tool_work.specs.GenImage.{gen_image}
 use Rattle.tool_work.specs.GenEvents.{gen_events}
 use Rattle.tool_work.specs.declared.prepared.Prepared.{Prepared}
@@ -89,3 +89,9 @@ gen_left n = record { first = Some (gen_after Looping n); second = Some (gen_aft
 -- no file is read
 abbrev pub gen_plan : GenWords → Plan Bench
 gen_plan words = Makes (gen_due words.number_is) (gen_left words.number_is)
+
+-- both chains do what the servicing machine does, which knows no dispatcher, and where both are done they agree
+pub record AreServed (n : ℕ) : Type 0 where
+  pub looping : IsServed false Looping gen_bound (gen_events n) (gen_board Looping n)
+  pub returning : IsServed false Returning gen_bound (gen_events n) (gen_board Returning n)
+  pub agree : DoAgree false (gen_image n) (gen_events n)

@@ -3,12 +3,13 @@ ghost use Rattle.std.specs.Prelude.{◌≡◌, IfOk, Some, None, if◌then◌els
 ghost use Rattle.chain_moves.specs.Words.{HasDispatcher};
 ghost use Rattle.chain_core.specs.Chain.{is_whole};
 ghost use Rattle.tool_work.specs.Bench.{Bench, empty_bench};
-ghost use Rattle.tool_work.specs.Chain.{IsServedTo, IsServed, slot_line, status_of, chain_board, chain_due, chain_left, chain_plan};
+ghost use Rattle.tool_work.specs.Chain.{IsServedTo, IsChainServed, DoAgree, slot_line, status_of, chain_board, chain_due, chain_left, chain_plan};
 ghost use Rattle.tool_words.specs.Chain.{view_chain};
 ghost use Rattle.tool_frame.specs.Code.{OfCommand, origin_of};
 ghost use Rattle.tool_frame.specs.Due.{worked};
 ghost use Rattle.tool_frame.specs.Answers.{EndsOrWants, Leaves, FollowsWith, status_in};
 
+use crate::agreeing::chains_agree;
 use crate::bench::Bench;
 use crate::chain_running::run_chain;
 use crate::image_file::ImageFile;
@@ -101,12 +102,14 @@ fn chain_image<W: Sink>(
     requires empty { bench.old ≡ empty_bench }
     ensures ends { EndsOrWants result (W.told out.old) (W.told out.new) (chain_due (view_chain order.now) image.now events.now) }
     ensures leaves { Leaves empty_bench result (worked (chain_due (view_chain order.now) image.now events.now) (chain_left (view_chain order.now) image.now events.now)) bench.new }
-    ensures served { origin_of result ≡ OfCommand → IsServed (view_chain order.now) image.now events.now }
+    ensures served { origin_of result ≡ OfCommand → IsChainServed (view_chain order.now) image.now events.now }
+    ensures agree { origin_of result ≡ OfCommand → DoAgree order.now.direct image.now events.now }
 {
     let mut board = match board_with(alloc, order.dispatcher, image, events) {
         Ok(board) => board,
         Err(_) => return Status::Memory,
     };
+    chains_agree(&board, order.dispatcher, events);
     match run_chain(alloc, order, &mut board, events, out) {
         Ok(end) => {
             leave(&end, board, bench);

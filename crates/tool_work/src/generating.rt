@@ -1,18 +1,20 @@
 // The two chains of `gen`.
-ghost use Rattle.std.specs.Prelude.{◌≡◌, IfOk, IfErr, Some, is_ok, if◌then◌else◌};
+ghost use Rattle.std.specs.Prelude.{◌≡◌, false, IfOk, IfErr, Some, is_ok, if◌then◌else◌};
 ghost use Rattle.board_outside.specs.Shelf.{ShelfView};
 ghost use Rattle.board_outside.specs.Sink.{Writes};
 ghost use Rattle.chain_core.specs.Chain.{chain_end, board_after};
 ghost use Rattle.chain_moves.specs.declared.dispatcher.Dispatcher.TheVariants.{Looping, Returning};
 ghost use Rattle.tool_work.specs.Bench.{empty_bench};
 ghost use Rattle.tool_work.specs.Shipped.{shipped_meanings};
-ghost use Rattle.tool_work.specs.Chain.{chain_board};
+ghost use Rattle.tool_work.specs.Chain.{chain_board, IsServed};
 ghost use Rattle.tool_words.specs.Gen.{view_gen};
-ghost use Rattle.tool_work.specs.Gen.{gen_bound, gen_board, summary_line, line_after, gen_line, deciding, gen_due, gen_left, gen_plan, IsPrepared};
+ghost use Rattle.tool_work.specs.Gen.{gen_bound, gen_board, summary_line, line_after, gen_line, deciding, gen_due, gen_left, gen_plan, IsPrepared, AreServed};
 ghost use Rattle.tool_work.specs.GenEvents.{gen_events};
 ghost use Rattle.tool_frame.specs.Answers.{Ends, Leaves, FollowsWith};
 ghost use Rattle.tool_frame.specs.Due.{worked};
+ghost use Rattle.tool_frame.specs.Code.{OfCommand, origin_of};
 
+use crate::agreeing::chains_agree;
 use crate::bench::Bench;
 use crate::chaining::{board_with, status_of_end};
 use crate::gen_events::generated_events;
@@ -53,6 +55,7 @@ fn chained(prepared: &mut Prepared, dispatcher: Dispatcher, events: &Events) -> 
     requires ready { IsPrepared dispatcher events.now prepared.old }
     ensures end { result ≡ (chain_end shipped_meanings events.now.list dispatcher gen_bound prepared.old.board).end }
     ensures board { prepared.new.board ≡ board_after shipped_meanings events.now.list dispatcher gen_bound prepared.old.board }
+    ensures served { IsServed false dispatcher gen_bound events.now prepared.old.board }
 {
     let mut nowhere = Quiet::new();
     chain(
@@ -167,7 +170,9 @@ fn run_both<W: Sink>(
     requires returning_ready { IsPrepared Returning events.now returning }
     ensures ends { Ends result (W.told out.old) (W.told out.new) (gen_due number) }
     ensures leaves { Leaves empty_bench result (worked (gen_due number) (gen_left number)) bench.new }
+    ensures served { AreServed number }
 {
+    chains_agree(&looping.board, Dispatcher::Looping, events);
     let mut first = looping;
     let mut second = returning;
     let first_end = chained(&mut first, Dispatcher::Looping, events);
@@ -187,6 +192,7 @@ fn chains_of<W: Sink>(
     requires empty { bench.old ≡ empty_bench }
     ensures ends { IfOk result (λ status. Ends status (W.told out.old) (W.told out.new) (gen_due number)) }
     ensures leaves { IfOk result (λ status. Leaves empty_bench status (worked (gen_due number) (gen_left number)) bench.new) }
+    ensures served { IfOk result (λ status. AreServed number) }
     ensures silent { IfErr result (λ want. W.told out.new ≡ W.told out.old) }
     ensures kept { IfErr result (λ want. bench.new ≡ empty_bench) }
 {
@@ -200,6 +206,7 @@ fn chains_of<W: Sink>(
 /// Makes the image and the events of a number, and runs both chains of them. It reads no file.
 pub fn generate<W: Sink>(alloc: Global, order: &GenOrder, bench: &mut Bench, out: &mut W) -> Status
     requires empty { bench.old ≡ empty_bench }
+    ensures served { origin_of result ≡ OfCommand → AreServed order.now.number }
     ensures follows { (shelf : ShelfView) → FollowsWith empty_bench result (gen_plan (view_gen order.now)) shelf shelf (W.told out.old) (W.told out.new) bench.new }
 {
     match chains_of(alloc, order.number, bench, out) {

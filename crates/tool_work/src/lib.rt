@@ -1,6 +1,7 @@
 // What each command does with its files, and what it writes.
 #![tactic(auto)]
 
+mod agreeing;
 mod assembling;
 mod bench;
 mod bounding;

@@ -30,6 +30,7 @@ returns g c =
       usage = λ none. of_misuse order status shelf shelf' sink sink' bench none done;
       command = done;
       served = c.answer.ensures.served;
+      served_generated = c.answer.ensures.served_generated;
       due = calm_done IsOfCommand empty_bench status plan shelf shelf' sink sink' bench own done;
       boards = calm_left empty_bench status plan shelf shelf' sink sink' bench own done;
       complete = complete IsOfCommand empty_bench status plan shelf shelf' sink sink' bench own done;

@@ -38,4 +38,5 @@ returns-clause-served g c = λ own. record {
   files = record { between = _; image_passed = c.in_ok-image.ensures.passes; scenario_passed = c.in_ok-events.ensures.passes };
   free = least_is c.in_ok-image.image None c.in-None.ensures;
   served = c.chain_image.ensures.served own;
+  agree = c.chain_image.ensures.agree own;
 }

@@ -10,3 +10,7 @@ returns-clause-end c = (c.chain.ensures.end (all_taken _ refl refl c.chain.ensur
 pub returns-clause-board : goal.returns-clause-board
 unfolding shipped_meanings
 returns-clause-board c = (c.chain.ensures.end (all_taken _ refl refl c.chain.ensures.text)).1
+
+pub returns-clause-served : goal.returns-clause-served
+unfolding shipped_meanings
+returns-clause-served c = record { services = c.chain.ensures.services; state = c.chain.ensures.state }

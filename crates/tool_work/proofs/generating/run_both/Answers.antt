@@ -1,12 +1,14 @@
-use Rattle.std.proofs.Common.{◌≡◌, ◌∙◌, Bool, Some, is_ok, ap, ap₂, if◌then◌else◌}
+use Rattle.std.proofs.Common.{◌≡◌, ◌∙◌, Bool, false, Some, is_ok, sym, ap, ap₂, subst, if◌then◌else◌}
 use Rattle.hart_board.specs.State.{State}
+use Rattle.hart_board.specs.Event.{EventList}
 use Rattle.chain_moves.specs.declared.dispatcher.Dispatcher.TheVariants.{Looping, Returning}
 use Rattle.tool_frame.specs.declared.status.Status.{Status}
 use Rattle.tool_frame.specs.declared.status.Status.TheVariants.{SinkFailed}
 use Rattle.tool_work.specs.Bench.{Bench, empty_bench}
-use Rattle.tool_work.specs.Chain.{status_of}
+use Rattle.tool_work.specs.Chain.{status_of, chain_board, DoAgree}
+use Rattle.tool_work.specs.GenImage.{gen_image}
 use Rattle.tool_work.specs.Gen.{gen_end, gen_after, gen_decides, deciding}
-use Rattle.tool_work.proofs.GenEnds.{end_is, after_is, gen_ends, gen_leaves}
+use Rattle.tool_work.proofs.GenEnds.{end_is, after_is, served_is, gen_ends, gen_leaves}
 use Rattle.tool_work.proofs.generating.run_both.Goals as goal
 
 pub returns-clause-ends : goal.returns-clause-ends
@@ -28,3 +30,11 @@ returns-clause-leaves g c =
     gen_leaves c.args.number (is_ok c.put_line-written.result)
     (c.ended.ensures ∙ ap (λ (s : Status). if is_ok c.put_line-written.result then s else SinkFailed) decides)
     (c.leave.ensures ∙ (ap (λ (w : Bool). left w c.chained-first_end.new.prepared.board c.chained-second_end.new.prepared.board) c.is_ok.ensures.value ∙ ap₂ (left (is_ok c.put_line-written.result)) looping returning))
+
+pub returns-clause-served : goal.returns-clause-served
+returns-clause-served g c = record {
+  looping = served_is Looping c.args.number c.args.events.now c.args.looping.board c.requires.made c.requires.looping c.chained-first_end.ensures.served;
+  returning = served_is Returning c.args.number c.args.events.now c.args.returning.board c.requires.made c.requires.returning c.chained-second_end.ensures.served;
+  agree = subst (DoAgree false (gen_image c.args.number)) c.requires.made
+      (c.chains_agree.ensures (gen_image c.args.number) false (c.requires.looping ∙ sym (ap (λ (es : EventList). chain_board Looping (gen_image c.args.number) es) c.requires.made)));
+}
