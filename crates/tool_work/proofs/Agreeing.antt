@@ -47,8 +47,10 @@ module (m : Meanings) (d : Dispatcher) (image : ImageView) (events : EventList) 
   starts : (e : Dispatcher) → Starts m events.list e (chain_board e image events)
   starts e = subst (Starts m events.list e) (sym (other_board d e image events room)) (starts_other m events.list d e (chain_board d image events) start)
 
-  looping returning : State
+  looping : State
   looping = chain_board Looping image events
+
+  returning : State
   returning = chain_board Returning image events
 
   differ : returning ≡ with_slot_bytes (slot_bytes Returning) looping
