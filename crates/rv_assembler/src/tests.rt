@@ -1,4 +1,5 @@
 use super::*;
+use asm_forms::AsmWhy;
 use asm_text::LexFault;
 use std::alloc::Global;
 use std::process::Abort;

@@ -39,7 +39,7 @@ other_board d e image events room =
     ap (λ (rom : List ℕ). record s { csrs = record s.csrs { mscratch = first_scratch }; memory = record s.memory { rom = rom } })
     (sym (slot_twice s.memory.rom (slot_bytes d) (slot_bytes e) room (length-slot_bytes d)))
 
-module (m : Meanings) (d : Dispatcher) (image : ImageView) (events : EventList) (start : Starts m events.list d (chain_board d image events)) where
+module _ (m : Meanings) (d : Dispatcher) (image : ImageView) (events : EventList) (start : Starts m events.list d (chain_board d image events)) where
   room : slot_end ≤ length (loaded image (shipped_board events.shape)).memory.rom
   room = beyond (loaded image (shipped_board events.shape)).memory.rom (slot_bytes d) (length-slot_bytes d) start.valid.memory.rom_len
 
