@@ -2,7 +2,7 @@ pub mod RunEnds
 pub mod TwoFiles
 pub mod ChainEnds
 pub mod GenEnds
-mod Agreeing
+mod Agreed
 mod Pulses
 mod WordBytes
 mod Labels

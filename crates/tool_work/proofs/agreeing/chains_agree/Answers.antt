@@ -2,7 +2,7 @@ use Rattle.std.proofs.Common.{subst}
 use Rattle.hart_board.specs.State.{State}
 use Rattle.chain_core.specs.Both.{Starts}
 use Rattle.tool_work.specs.Shipped.{shipped_meanings}
-use Rattle.tool_work.proofs.Agreeing.{chained_agree, direct_agree, by_directs}
+use Rattle.tool_work.proofs.Agreed.{chained_agree, direct_agree, by_directs}
 use Rattle.tool_work.proofs.agreeing.chains_agree.Goals as goal
 
 pub returns : goal.returns
