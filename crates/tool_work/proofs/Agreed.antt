@@ -47,43 +47,37 @@ module _ (m : Meanings) (d : Dispatcher) (image : ImageView) (events : EventList
   starts : (e : Dispatcher) → Starts m events.list e (chain_board e image events)
   starts e = subst (Starts m events.list e) (sym (other_board d e image events room)) (starts_other m events.list d e (chain_board d image events) start)
 
-  looping : State
-  looping = chain_board Looping image events
-
-  returning : State
-  returning = chain_board Returning image events
-
-  differ : returning ≡ with_slot_bytes (slot_bytes Returning) looping
+  differ : chain_board Returning image events ≡ with_slot_bytes (slot_bytes Returning) (chain_board Looping image events)
   differ = other_board Looping Returning image events room
 
   -- chained services alone
   pub chained_agree : ((es : List Event) (one other : ℕ) (b : State) (bytes : List ℕ) (steps bodies services at more also listed then : ℕ) → length bytes ≡ slot_end - base → Starts m es Looping b → Starts m es Returning (with_slot_bytes bytes b)
-          → chain_end m es Looping one b ≡ record { end = Done steps bodies services; steps = at } → chain_end m es Returning other (with_slot_bytes bytes b) ≡ record { end = Done more also listed; steps = then }
-          → BothAgree m es b (with_slot_bytes bytes b) one other steps more bodies also services listed)
-      → (one other steps bodies services more also listed : ℕ) → (chain_end m events.list Looping one looping).end ≡ Done steps bodies services → (chain_end m events.list Returning other returning).end ≡ Done more also listed
-      → BothAgree m events.list looping returning one other steps more bodies also services listed
+      → chain_end m es Looping one b ≡ record { end = Done steps bodies services; steps = at } → chain_end m es Returning other (with_slot_bytes bytes b) ≡ record { end = Done more also listed; steps = then }
+      → BothAgree m es b (with_slot_bytes bytes b) one other steps more bodies also services listed)
+      → (one other steps bodies services more also listed : ℕ) → (chain_end m events.list Looping one (chain_board Looping image events)).end ≡ Done steps bodies services → (chain_end m events.list Returning other (chain_board Returning image events)).end ≡ Done more also listed
+      → BothAgree m events.list (chain_board Looping image events) (chain_board Returning image events) one other steps more bodies also services listed
   chained_agree law one other steps bodies services more also listed first second =
       let es = events.list in
       let ends : (end : ChainEnd) (x : Ended) → x.end ≡ end → x ≡ record { end = end; steps = x.steps } = λ end x e. ap (λ (y : ChainEnd). record { end = y; steps = x.steps }) e in
-      let at = (chain_end m es Looping one looping).steps in
-      let then = (chain_end m es Returning other returning).steps in
-      subst (λ (c : State). BothAgree m es looping c one other steps more bodies also services listed) (sym differ)
-      (law es one other looping (slot_bytes Returning) steps bodies services at more also listed then (length-slot_bytes Returning) (starts Looping)
+      let at = (chain_end m es Looping one (chain_board Looping image events)).steps in
+      let then = (chain_end m es Returning other (chain_board Returning image events)).steps in
+      subst (λ (c : State). BothAgree m es (chain_board Looping image events) c one other steps more bodies also services listed) (sym differ)
+      (law es one other (chain_board Looping image events) (slot_bytes Returning) steps bodies services at more also listed then (length-slot_bytes Returning) (starts Looping)
       (subst (Starts m es Returning) differ (starts Returning))
-      (ends (Done steps bodies services) (chain_end m es Looping one looping) first)
-      (subst (λ (c : State). chain_end m es Returning other c ≡ record { end = Done more also listed; steps = then }) differ (ends (Done more also listed) (chain_end m es Returning other returning) second)))
+      (ends (Done steps bodies services) (chain_end m es Looping one (chain_board Looping image events)) first)
+      (subst (λ (c : State). chain_end m es Returning other c ≡ record { end = Done more also listed; steps = then }) differ (ends (Done more also listed) (chain_end m es Returning other (chain_board Returning image events)) second)))
 
   -- and with direct services
   pub direct_agree : ((es : List Event) (one other : ℕ) (b : State) (bytes : List ℕ) (steps bodies services more also listed : ℕ) → slot_end ≤ length b.memory.rom → length bytes ≡ slot_end - base
-          → (direct_end m es Looping one b).end ≡ Done steps bodies services → (direct_end m es Returning other (with_slot_bytes bytes b)).end ≡ Done more also listed
-          → BothDirectAgree m es b (with_slot_bytes bytes b) one other steps more bodies also services listed)
-      → (one other steps bodies services more also listed : ℕ) → (direct_end m events.list Looping one looping).end ≡ Done steps bodies services → (direct_end m events.list Returning other returning).end ≡ Done more also listed
-      → BothDirectAgree m events.list looping returning one other steps more bodies also services listed
+      → (direct_end m es Looping one b).end ≡ Done steps bodies services → (direct_end m es Returning other (with_slot_bytes bytes b)).end ≡ Done more also listed
+      → BothDirectAgree m es b (with_slot_bytes bytes b) one other steps more bodies also services listed)
+      → (one other steps bodies services more also listed : ℕ) → (direct_end m events.list Looping one (chain_board Looping image events)).end ≡ Done steps bodies services → (direct_end m events.list Returning other (chain_board Returning image events)).end ≡ Done more also listed
+      → BothDirectAgree m events.list (chain_board Looping image events) (chain_board Returning image events) one other steps more bodies also services listed
   direct_agree law one other steps bodies services more also listed first second =
       let es = events.list in
       let whole = (starts Looping).valid.memory.rom_len in
-      subst (λ (c : State). BothDirectAgree m es looping c one other steps more bodies also services listed) (sym differ)
-      (law es one other looping (slot_bytes Returning) steps bodies services more also listed (omega (arith, whole)) (length-slot_bytes Returning) first
+      subst (λ (c : State). BothDirectAgree m es (chain_board Looping image events) c one other steps more bodies also services listed) (sym differ)
+      (law es one other (chain_board Looping image events) (slot_bytes Returning) steps bodies services more also listed (omega (arith, whole)) (length-slot_bytes Returning) first
       (subst (λ (c : State). (direct_end m es Returning other c).end ≡ Done more also listed) differ second))
 
 -- by whether they are asked for

@@ -11,5 +11,5 @@ returns c = λ image directs is.
     let start = subst (λ (b : State). Starts shipped_meanings c.args.events.now.list c.args.dispatcher b) is c.can_start.ensures in
     by_directs image c.args.events.now
     (chained_agree shipped_meanings c.args.dispatcher image c.args.events.now start c.both_dispatchers_agree.ensures)
-    (direct_agree shipped_meanings c.args.dispatcher image c.args.events.now start c.direct_chains_agree.ensures)
+    (direct_agree shipped_meanings c.args.dispatcher image c.args.events.now start c.both_dispatchers_agree-2.ensures)
     directs
