@@ -1,5 +1,6 @@
 use Rattle.tool_work.specs.Bench.{empty_bench}
-use Rattle.std.proofs.Common.{◌≡◌, Option, Some, None, subst, inl}
+use Rattle.std.proofs.Common.{◌≡◌, ◌∙◌, Option, Some, None, ap, subst, inl}
+use Rattle.std.specs.Prelude.{unwrap_or}
 use Rattle.tool_frame.specs.Answers.{FollowsWith}
 use Rattle.tool_frame.proofs.Ends.{lacks, makes}
 use Rattle.tool_words.specs.Order.{Order, order_of, view}
@@ -18,3 +19,8 @@ returns-in-Ok-None-clause-follows g c =
 
 pub returns-in-Err-clause-follows : goal.returns-in-Err-clause-follows
 returns-in-Err-clause-follows g c = rw c.requires.empty (lacks empty_bench _ _ _)
+
+pub returns-in-Ok-Some-clause-served_generated : goal.returns-in-Ok-Some-clause-served_generated
+returns-in-Ok-Some-clause-served_generated g c = λ gen is own.
+    let told : Some (view c.in-Ok-Some.order) ≡ order_of c.args.words.now = rw c.in-Ok-Some.field-0-is at c.in-Ok-Some.ensures in
+    c.follow.ensures.served_generated gen (ap (λ (o : Option Order). unwrap_or o (view c.in-Ok-Some.order)) (told ∙ is)) own
