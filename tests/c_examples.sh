@@ -37,6 +37,7 @@ sends() {
 builds hello examples/c/hello.c
 sends hello run "$folder/hello.img" examples/empty.txt 10000
 builds serial examples/c/serial.c examples/c/serial_handlers.S
+builds plain examples/c/serial.c examples/c/serial_plain.c
 
 # A command that isn't built is no command: status 2.
 ./clic_tool chain no.img no.txt looping 0 >/dev/null
@@ -46,5 +47,14 @@ if [ $? -eq 2 ]; then
 fi
 for dispatcher in looping returning; do
     sends serial chain "$folder/serial.img" examples/c/serial.txt "$dispatcher" 100000
+    sends serial chain "$folder/plain.img" examples/c/serial.txt "$dispatcher" 100000
 done
+
+# The static checker takes the plain handlers, wherever the compiler at hand has put them.
+for handler in handler_16 handler_18; do
+    at=$(riscv64-unknown-elf-nm "$folder/plain.elf" | sed -n "s/ T $handler\$//p")
+    ./clic_tool lint "$folder/plain.img" "$((0x$at))" 536928256 536936448 >"$folder/verdict" || fail "$handler is refused"
+done
+./clic_tool bound "$folder/plain.img" 536928256 536936448 192 16:255,18:127 >"$folder/verdict" || fail "no bound"
+grep -q '^bound ' "$folder/verdict" || fail "no bound is written"
 echo "C examples: as they should be"

@@ -1,4 +1,5 @@
-# What the scripts with rows share. A script sets $script, its name, and reads this file with `.`; then it stands at the
+# What the scripts with rows share. A script sets $script, its name, and $tool, where
+# its program isn't clic_tool, and reads this file with `.`; then it stands at the
 # top of the repository with the program built, and has a folder of its own.
 top=$(cd "$(dirname "$0")/.." && pwd)
 command -v rt >/dev/null || { echo "$script: skipped, since there is no rt"; exit 0; }
@@ -7,8 +8,9 @@ trap 'rm -rf "$folder"' EXIT
 written=$folder/written
 wanted=$folder/wanted
 cd "$top" || exit 1
-./clic_tool >/dev/null # so that it is built
-program=$top/crates/clic_tool/out/clic_tool
+tool=${tool:-clic_tool}
+"./$tool" >/dev/null # so that it is built
+program=$top/crates/$tool/out/$tool
 [ -x "$program" ] || exit 1
 
 fail() {

@@ -67,10 +67,32 @@ answers 11 'no BadTable 00000040\n' bound first.img 536870912 536936448 0 16:1
 "$top/clic_tool" run "a name.img" empty.txt 100 >out 2>err || fail "a name with a space: status $?"
 cmp out "$top/examples/first.report" || fail "a name with a space: another text"
 
+# Two files whose names differ by a blank at the end.
+cp bad.img "first.img "
+"$top/clic_tool" run first.img empty.txt 100 >out 2>err || fail "the name without a blank: status $?"
+cmp out "$top/examples/first.report" || fail "the name without a blank: another text"
+answers 5 'refused image BadMagic 0\n' run "first.img " empty.txt 100
+
+# A stack of 64 KiB does for each command. Where there is no room for the board, the answer is 7, and no signal.
+program=$top/crates/clic_tool/out/clic_tool
+cp "$top/examples/two.img" "$top/examples/two.txt" "$top/examples/lost.img" "$top/examples/lost.script" .
+"$program" mem first.img >first.mem
+for words in 'run first.img empty.txt 100 --trace' 'chain two.img two.txt looping 1000' \
+    'chain two.img two.txt returning 1000 --trace --direct' 'gen 100' 'monitor lost.img lost.script' 'asm two.s' \
+    'disasm two.img' 'mem two.img' 'unmem first.mem 0' 'lint two.img 596 536903680 536936448' \
+    'bound two.img 536903680 536936448 256 3:255,5:127'; do
+    "$program" $words >wide 2>&1
+    (ulimit -s 64 && "$program" $words) >narrow 2>&1 || fail "$words: status $? with a stack of 64 KiB"
+    cmp wide narrow || fail "$words: another text with a stack of 64 KiB"
+done
+(ulimit -v 3500 && "$program" run first.img empty.txt 100) >out 2>err
+[ $? -eq 7 ] || fail "no room for the board: not status 7"
+[ -s out ] && fail "no room for the board: something was written"
+
 # An output that is full, one that is closed, and one that can't be written.
 "$top/clic_tool" run first.img empty.txt 100 >/dev/full 2>err
 [ $? -eq 6 ] || fail "a full output: not status 6"
 "$top/clic_tool" run first.img empty.txt 100 >&- 2>err
 [ $? -eq 6 ] || fail "a closed output: not status 6"
 [ -s err ] && fail "a failed output: something went to standard error"
-echo "real files: as README says"
+echo "real files: as the docs say"

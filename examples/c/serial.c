@@ -1,22 +1,19 @@
 /* Two handlers: bytes that come to the serial port are sent back as capitals, and ticks are counted. A full stop ends
    it: the foreground then sends how many there were of both. */
-#include "board.h"
+#include "serial.h"
 
-static volatile uint32_t bytes;
-static volatile uint32_t ticks;
-static volatile uint32_t last;
+volatile uint32_t bytes;
+volatile uint32_t ticks;
+volatile uint32_t last;
 static volatile uint32_t period = 10; /* counts of time a tick */
 
+/* The handlers of serial_handlers.S call these; those of serial_plain.c do without. */
 void on_byte(void) {
-    uint32_t byte = UART_DATA;
-    UART_DATA = byte >= 'a' && byte <= 'z' ? byte - 'a' + 'A' : byte;
-    bytes = bytes + 1;
-    last = byte;
+    take_byte();
 }
 
 void on_tick(void) {
-    TICKER_FLAG = 0;
-    ticks = ticks + 1;
+    count_tick();
 }
 
 static void input_on(int input, uint8_t control) {

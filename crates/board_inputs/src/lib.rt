@@ -24,6 +24,7 @@ pub use image_loading::load_image;
 pub use image_reading::read_image;
 pub use image_why::ImageWhy;
 pub use image_writing::write_image;
+pub use numbers::number;
 pub use scenario_error::ScenarioError;
 pub use scenario_reading::{MAX_EVENTS, read_scenario};
 pub use scenario_why::ScenarioWhy;

@@ -21,9 +21,9 @@ fn value_of(text: &[u8], most: u32) -> Option<u32>
     Some(value as u32)
 }
 
-// The number that a text spells in decimal without a leading zero, where it is at most so great.
+/// The number that a text spells in decimal without a leading zero, where it is at most so great.
 #[tactic(auto, unfolding(crate::specs::Numbers::number_upto))]
-pub(crate) fn number(text: &[u8], most: u32) -> Option<u32>
+pub fn number(text: &[u8], most: u32) -> Option<u32>
     ensures number { result ≡ number_upto most text.now }
     ensures small { IfSome result (λ n. n ≤ most) }
 {

@@ -5,7 +5,7 @@ use Rattle.std.specs.Prelude.{nat_le}
 use Rattle.std.proofs.lemmas.Bool.{lt-leb}
 use Rattle.board_outside.specs.Counts.{added, Rose}
 use Rattle.board_outside.specs.Puts.{PutsState, with_taken, Hands}
-use Rattle.board_outside.specs.Output.{most_kept, handed}
+use Rattle.board_outside.specs.Buffered.{most_kept, handed}
 use Rattle.board_outside.proofs.CountsSoFar.{added_more, taken_more}
 use Rattle.board_outside.proofs.Writing.{appends_both}
 

@@ -6,4 +6,4 @@ pub mod Reads
 pub mod Puts
 pub mod MemoryShelf
 pub mod MemorySink
-pub mod Output
+pub mod Buffered

@@ -1,11 +1,11 @@
 // What stands outside the board: files to read, a sink to write to, and the words of a command line.
 #![tactic(auto)]
 
+mod buffered_sink;
 mod calls;
 mod file_shelf;
 mod memory_shelf;
 mod memory_sink;
-mod output;
 mod puts;
 mod quiet;
 mod reads;
@@ -20,6 +20,7 @@ mod tries;
 mod word;
 mod words;
 
+pub use buffered_sink::BufferedSink;
 pub use file_shelf::FileShelf;
 pub use memory_shelf::MemoryShelf;
 pub use memory_sink::MemorySink;

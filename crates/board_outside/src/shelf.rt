@@ -4,8 +4,8 @@ ghost use Rattle.board_outside.specs.Shelf.{ShelfView, file_at, Gives, CountsFet
 
 use std::alloc::Global;
 
-/// The greatest limit of a fetch: 4 MiB.
-pub const MOST_FETCHED: u64 = 4_194_304;
+/// The greatest limit of a fetch: 16 MiB.
+pub const MOST_FETCHED: u64 = 16_777_216;
 
 /// Why a file isn't given.
 #[derive(Clone, Copy, Debug, PartialEq, Eq, Drop)]

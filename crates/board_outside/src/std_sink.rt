@@ -1,38 +1,36 @@
 // Standard output.
 ghost use Rattle.std.specs.Prelude.{◌≡◌, [], is_ok};
 ghost use Rattle.board_outside.specs.Sink.{Writes};
-ghost use Rattle.board_outside.specs.Puts.{CountsPut, output_view};
-ghost use Rattle.board_outside.specs.Output.{no_output, handed, kept_after};
+ghost use Rattle.board_outside.specs.Puts.{output_view, Hands};
+ghost use Rattle.board_outside.specs.Buffered.{nothing_written, handed, kept_after};
 
-use crate::output::Output;
+use crate::buffered_sink::BufferedSink;
 use crate::sink::{Sink, SinkFault};
 use std::io;
+use std::io::Printer;
 use std::marker::Model;
 
-/// Standard output, seen as what is kept back and what was handed to it, in counts. It tells nothing of what was
-/// written. What is kept is lost unless `finish` hands it over.
+/// Standard output, a writer that doesn't tell what it holds, behind a buffer.
 #[derive(Drop)]
 pub struct StdSink<'a, R: Print> {
-    rt: &'a R,
-    output: Output,
+    buffered: BufferedSink<Printer<'a, R>>,
 }
 
 impl<'a, R: Print> Model for StdSink<'a, R> {
-    ghost use Rattle.board_outside.specs.Output.{OutputState};
+    ghost use Rattle.board_outside.specs.Buffered.{BufferedState};
 
-    ghost Value = { OutputState };
+    ghost Value = { BufferedState };
 
-    ghost view = { λ s. s.output };
+    ghost view = { λ s. s.buffered };
 }
 
 impl<'a, R: Print> StdSink<'a, R> {
     /// No text yet.
     pub fn new(rt: &'a R) -> StdSink<'a, R>
-        ensures { result ≡ no_output }
+        ensures { result ≡ nothing_written }
     {
         StdSink {
-            rt,
-            output: Output::new(),
+            buffered: BufferedSink::new(io::writer(rt)),
         }
     }
 
@@ -40,16 +38,15 @@ impl<'a, R: Print> StdSink<'a, R> {
     pub fn bytes_taken(&self) -> u64
         ensures { result ≡ self.now.puts.bytes }
     {
-        self.output.bytes()
+        self.buffered.bytes_taken()
     }
 
     /// Hands over what is kept, at the end.
     pub fn finish(&mut self) -> Result<(), SinkFault>
-        // All that was kept is taken, or a front of it and then a write failed.
-        ensures hands { CountsPut (is_ok result) self.old.puts self.new.puts self.old.kept }
+        ensures hands { Hands (is_ok result) self.old.held self.new.held self.old.puts self.new.puts self.old.kept }
         ensures keeps { self.new.kept ≡ [] }
     {
-        self.output.finish(&mut io::writer(self.rt))
+        self.buffered.finish()
     }
 }
 
@@ -58,10 +55,9 @@ impl<'a, R: Print> Sink for StdSink<'a, R> {
 
     fn put(&mut self, bytes: &[u8]) -> Result<(), SinkFault>
         ensures writes { Writes (is_ok result) (output_view self.old.puts) (output_view self.new.puts) bytes.now }
-        // All that is handed over was taken, or a front of it and then a write failed.
-        ensures hands { CountsPut (is_ok result) self.old.puts self.new.puts (handed self.old.kept bytes.now) }
+        ensures hands { Hands (is_ok result) self.old.held self.new.held self.old.puts self.new.puts (handed self.old.kept bytes.now) }
         ensures keeps { self.new.kept ≡ kept_after self.old.kept bytes.now }
     {
-        self.output.put(&mut io::writer(self.rt), bytes)
+        self.buffered.put(bytes)
     }
 }

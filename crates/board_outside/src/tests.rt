@@ -1,5 +1,5 @@
 use super::*;
-use crate::output::Output;
+use crate::buffered_sink::BufferedSink;
 use crate::puts::Puts;
 use crate::reads::Reads;
 use crate::streams::{read_front, write_whole};
@@ -127,28 +127,33 @@ fn what_is_interrupted_is_tried_again(rt: HostRuntime) {
     }
 }
 
-// Texts are kept as long as they fit. After a failure nothing is kept.
+// Texts are kept as long as they fit.
 #[test]
 fn text_is_kept_back(rt: HostRuntime) {
     let piece = [b'x'; 4096];
-    let mut output = Output::new();
-    let mut writer = Halting {
+    let mut sink = BufferedSink::new(Halting {
         interruptions: 0,
         left: 0,
-    };
+    });
     for (size, taken) in [(4096, 0), (4095, 0), (1, 0), (1, 8193), (4096, 8193)] {
-        assert_eq!(rt; output.put(&mut writer, &piece[..size]), Ok(()));
-        assert_eq!(rt; output.bytes(), taken);
+        assert_eq!(rt; sink.put(&piece[..size]), Ok(()));
+        assert_eq!(rt; sink.bytes_taken(), taken);
     }
-    assert_eq!(rt;
-        output.finish(&mut Narrow { room: 4095 }),
-        Err(SinkFault::Failed)
-    );
-    assert_eq!(rt; output.bytes(), 12_288);
-    assert_eq!(rt; output.finish(&mut Narrow { room: 0 }), Ok(()));
-    assert_eq!(rt; output.put(&mut Narrow { room: 0 }, b"end"), Ok(()));
-    assert_eq!(rt; output.finish(&mut writer), Ok(()));
-    assert_eq!(rt; output.bytes(), 12_291);
+    assert_eq!(rt; sink.finish(), Ok(()));
+    assert_eq!(rt; sink.bytes_taken(), 12_289);
+}
+
+// After a failure nothing is kept.
+#[test]
+fn what_is_not_taken_is_dropped(rt: HostRuntime) {
+    let mut sink = BufferedSink::new(Narrow { room: 3 });
+    assert_eq!(rt; sink.put(b"hello"), Ok(()));
+    assert_eq!(rt; sink.finish(), Err(SinkFault::Failed));
+    assert_eq!(rt; sink.bytes_taken(), 3);
+    assert_eq!(rt; sink.finish(), Ok(()));
+    assert_eq!(rt; sink.put(b"end"), Ok(()));
+    assert_eq!(rt; sink.finish(), Err(SinkFault::Failed));
+    assert_eq!(rt; sink.bytes_taken(), 3);
 }
 
 fn fetched(

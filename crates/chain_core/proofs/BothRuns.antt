@@ -12,7 +12,7 @@ use Rattle.chain_moves.specs.Run.{Made, Over, run_to, Leads, IsRun}
 use Rattle.chain_moves.specs.Moves.{move, servicing_machine}
 use Rattle.chain_moves.specs.Cost.{cost}
 use Rattle.chain_core.specs.Counts.{counts}
-use Rattle.chain_core.specs.End.{end_by, end_of, end_at}
+use Rattle.chain_core.specs.End.{end_by, end_of, end_at, EndsAs, IsBroken}
 use Rattle.chain_moves.specs.Start.{begun}
 use Rattle.chain_core.specs.ChainRun.{read_to}
 use Rattle.chain_core.specs.Chain.{chain_end, board_after, is_done, AgreesWith, AgreesAtEnd, AgreesWhereDone}
@@ -21,9 +21,11 @@ use Rattle.chain_moves.specs.declared.dispatcher.Dispatcher.{Dispatcher}
 use Rattle.chain_moves.specs.declared.dispatcher.Dispatcher.TheVariants.{Looping, Returning}
 use Rattle.chain_moves.specs.declared.moves.Move.{Move}
 use Rattle.chain_core.specs.declared.ended.Ended.{Ended}
-use Rattle.chain_core.specs.declared.chain_end.ChainEnd.TheVariants.{Done, BudgetSpent}
+use Rattle.chain_core.specs.declared.chain_end.ChainEnd.TheVariants.{Done, BudgetSpent, Broken as BrokenOff}
+use Rattle.chain_moves.specs.declared.broken.Broken.{Broken}
+use Rattle.chain_core.proofs.Ends.{ends_so}
 use Rattle.chain_moves.proofs.Leading.{is_run}
-use Rattle.chain_core.proofs.Bounded.{same_over, services_are as moves_services, over_last}
+use Rattle.chain_core.proofs.Bounded.{same_over, same_break, services_are as moves_services, over_last}
 use Rattle.chain_core.proofs.Costs.{over_costs}
 use Rattle.chain_moves.proofs.Starts.{starts_same}
 use Rattle.chain_core.proofs.ChainEnds.{ends_from, services_are, state_is}
@@ -64,10 +66,27 @@ same_boards b c s g h = record {
   pc = g.pc ∙ sym h.pc;
   mstatus = (g.mie ∙ sym h.mie, g.mpie ∙ sym h.mpie);
   scratch = g.scratch ∙ sym h.scratch;
+  threshold = g.threshold ∙ sym h.threshold;
+  table = g.table ∙ sym h.table;
+  vector = g.vector ∙ sym h.vector;
+  level = g.level ∙ sym h.level;
   outside = g.outside ∙ sym h.outside;
   rom = λ j o. g.rom j o ∙ sym (h.rom j o);
   ram = λ j o. g.ram j o ∙ sym (h.ram j o);
 }
+
+-- two chains that are broken, from boards that differ in the slot alone, are broken alike
+pub broken_alike : (m : Meanings) (es : List Event) (d e : Dispatcher) (one other : ℕ) (b : State) (bytes : List ℕ) (kind also : Broken) (bodies more : ℕ) → slot_end ≤ length b.memory.rom → length bytes ≡ slot_end - base
+    → (chain_end m es d one b).end ≡ BrokenOff kind bodies → (chain_end m es e other (with_slot_bytes bytes b)).end ≡ BrokenOff also more → (kind ≡ also) × (bodies ≡ more)
+broken_alike m es d e one other b bytes kind also bodies more long size f g =
+    let x = servicing_machine m es in
+    let first = begun m es b in
+    let second = begun m es (with_slot_bytes bytes b) in
+    let start : second ≡ first = starts_same m es b bytes long size in
+    let p : IsBroken x d one first kind bodies = subst (EndsAs x d one first) f (ends_so x d one first) in
+    let made : IsBroken x e other second also more = subst (EndsAs x e other second) g (ends_so x e other second) in
+    let q : IsBroken x e other first also more = subst (λ s. IsBroken x e other s also more) start made in
+    same_break x d first p.made q.made p.state q.state p.when q.when kind also bodies more p.leads q.leads p.breaks q.breaks
 
 module _ (m : Meanings) (es : List Event) (sound : IsSoundDevice m) where
   done_run : (d : Dispatcher) (bound : ℕ) (b : State) (steps bodies services at : ℕ) → Starts m es d b → chain_end m es d bound b ≡ record { end = Done steps bodies services; steps = at } → DoneRun m es d bound b steps bodies services

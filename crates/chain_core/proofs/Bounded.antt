@@ -168,6 +168,16 @@ module _ {K S E : Type 0} (x : Machine K S E) (d : Dispatcher) (s : S) where
       let r = not_longer_over other made u t g h e in
       same made other t u h g (omega arith)
 
+  breaks_alike : (a b : Moved K S) (when when' : When) (kind kind' : Broken) (n n' : ℕ) → a ≡ b → a ≡ Breaks when kind n → b ≡ Breaks when' kind' n' → (kind ≡ kind') × (n ≡ n')
+  breaks_alike a b when when' kind kind' n n' same e f = (cc, cc)
+
+  -- two runs that break, break alike
+  pub same_break : (made other : List (Made K)) (t u : S) (when when' : When) (kind kind' : Broken) (n n' : ℕ) → Leads x made s t → Leads x other s u → x.move t ≡ Breaks when kind n → x.move u ≡ Breaks when' kind' n' → (kind ≡ kind') × (n ≡ n')
+  same_break made other t u when when' kind kind' n n' h g e f =
+      let l = not_longer_broke made other t u when' kind' n' h g f in
+      let r = not_longer_broke other made u t when kind n g h e in
+      breaks_alike (x.move t) (x.move u) when when' kind kind' n n' (ap x.move (same made other t u h g (omega arith)).state) e f
+
   reaches : (n bound c : ℕ) (b : Bool) (end : ChainEnd) → n ≤ bound → n ≤ c → n ≤ (end_by b end c bound).steps
   reaches n bound c true end l m = m
   reaches n bound c false end l m = l

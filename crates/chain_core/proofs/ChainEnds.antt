@@ -11,10 +11,8 @@ use Rattle.hart_report.proofs.Texts.{same_text}
 use Rattle.hart_board.specs.State.{State}
 use Rattle.hart_board.specs.Step.{step}
 use Rattle.hart_board.specs.Run.{standing}
-use Rattle.hart_board.specs.Steps.{stands_at, board_at}
-use Rattle.hart_board.specs.Event.{AreEventsFrom, with_events}
-use Rattle.hart_board.specs.Valid.{IsBoard}
-use Rattle.chain_moves.specs.Words.{HasDispatcher}
+use Rattle.hart_board.specs.Steps.{stands_at, board_at, GoesOnBefore}
+use Rattle.hart_board.specs.Event.{with_events}
 use Rattle.chain_core.proofs.ChainLoop.{stood_first}
 use Rattle.hart_board.specs.declared.event.Event.{Event}
 use Rattle.chain_moves.specs.Servicing.{Servicing, marks, innermost_level}
@@ -26,9 +24,9 @@ use Rattle.chain_core.specs.ChainRun.{is_body, read_to}
 use Rattle.chain_moves.specs.Watched.{Watched, nothing_watched}
 use Rattle.chain_moves.specs.Beside.{Rest, board_of}
 use Rattle.chain_core.specs.Progress.{Progress}
-use Rattle.chain_core.specs.Text.{steps_text, report, Cut}
+use Rattle.chain_core.specs.Text.{steps_text, Cut}
 use Rattle.chain_core.specs.Rounds.{round}
-use Rattle.chain_core.specs.Chain.{chain_end, machine_run, board_after, dead_at, is_whole, steps_part, report_part, is_done, StopsInSteps, Stops, AgreesWith, AgreesAtEnd, AgreesWhereDone}
+use Rattle.chain_core.specs.Chain.{chain_end, machine_run, board_after, is_whole, steps_part, report_part, is_done, StopsInSteps, Stops, AgreesWith, AgreesAtEnd, AgreesWhereDone}
 use Rattle.chain_moves.specs.declared.dispatcher.Dispatcher.{Dispatcher}
 use Rattle.chain_core.specs.declared.ended.Ended.{Ended}
 use Rattle.chain_core.specs.declared.chain_end.ChainEnd.{ChainEnd}
@@ -97,6 +95,10 @@ module _ (m : Meanings) (es : List Event) (sound : IsSoundDevice m) (from : ℕ)
     pub services_are : (read_to m es b (chain_end m es d bound b).steps).services ≡ services_within (servicing_machine m es) d bound (begun m es b)
     services_are = ap (λ (k : Ended). (read_to m es b k.steps).services) e.final.ends ∙ e.final.services
 
+    -- until there the board's run goes on
+    pub goes_are : GoesOnBefore m is_body es b (chain_end m es d bound b).steps
+    goes_are = subst (λ (k : Ended). GoesOnBefore m is_body es b k.steps) (sym e.final.ends) e.final.goes
+
     -- ---- the state
     board_is : e.progress.board ≡ board_after m es d bound b
     board_is = ap (λ (q : Progress). q.board) e.final.progress ∙ ap (λ (k : Ended). board_at m is_body es b k.steps) (sym e.final.ends)
@@ -157,6 +159,9 @@ module _ {m : Meanings} {es : List Event} (sound : IsSoundDevice m) {d : Dispatc
 
   pub services_from : (read_to m es b (chain_end m es d bound b).steps).services ≡ services_within (servicing_machine m es) d bound (begun m es b)
   services_from = services_are m es sound 0 d bound b (ends_from sound bound starts)
+
+  pub goes_from : GoesOnBefore m is_body es b (chain_end m es d bound b).steps
+  goes_from = goes_are m es sound 0 d bound b (ends_from sound bound starts)
 
   pub state_from : AgreesWhereDone (chain_end m es d bound b).end (board_after m es d bound b) (machine_run m es bound b)
   state_from = state_is m es sound 0 d bound b (ends_from sound bound starts)

@@ -1,10 +1,9 @@
 -- The loop of a chain: where it begins, what a round adds, and what its end says.
 use Rattle.std.proofs.Common.{◌≡◌, ℕ, ◌+◌, ◌-◌, ◌^◌, ◌<◌, ◌≤◌, Bool, true, false, List, [], length, refl, sym, ap, ap₂, ◌∙◌, subst, arith}
-use Rattle.board_outside.specs.Sink.{SinkView, Writes}
+use Rattle.board_outside.specs.Sink.{SinkView}
 use Rattle.device_model.specs.Meanings.{Meanings, IsSound as IsSoundDevice}
 use Rattle.hart_report.proofs.Texts.{same_text}
 use Rattle.hart_board.specs.State.{State}
-use Rattle.hart_board.specs.Valid.{IsBoard}
 use Rattle.hart_board.specs.Event.{AreEventsFrom, with_events}
 use Rattle.hart_board.specs.Run.{Stand}
 use Rattle.hart_board.specs.Steps.{board_at}
@@ -13,7 +12,6 @@ use Rattle.chain_core.specs.End.{end_at}
 use Rattle.chain_moves.specs.Moves.{servicing_machine}
 use Rattle.chain_moves.specs.Cost.{cost}
 use Rattle.chain_moves.specs.Start.{begun}
-use Rattle.chain_moves.specs.Words.{HasDispatcher}
 use Rattle.chain_core.specs.ChainRun.{is_body, Read, nothing_read}
 use Rattle.chain_moves.specs.Watched.{Watched, nothing_watched}
 use Rattle.chain_core.specs.Progress.{Progress, progress_of, progress_at, HasRoom}
@@ -30,11 +28,11 @@ use Rattle.chain_core.proofs.Bounded.{steps_within}
 use Rattle.chain_core.proofs.BodyRuns.{starts_run}
 use Rattle.chain_moves.proofs.Watching.{begun_watched}
 use Rattle.chain_core.proofs.Told.{then_told, within_more}
-use Rattle.chain_core.proofs.Standing.{goes_at, at_most, Stood, Final, AtHalt, RoundMeans, Means, made_within}
+use Rattle.chain_core.proofs.Standing.{goes_at, at_most, Stood, Final, RoundMeans, Means, made_within}
 use Rattle.chain_core.proofs.RoundMeans.{round_means}
 use Rattle.chain_core.specs.declared.chain_end.ChainEnd.TheVariants.{Done, BudgetSpent, Broken as BrokenOff}
 use Rattle.chain_core.specs.declared.round.Round.TheVariants.{Made, Failed, Ended as RoundEnded, Spent}
-use Rattle.std.specs.Prelude.{Result, Ok, Err, IsTrue}
+use Rattle.std.specs.Prelude.{Ok, Err, IsTrue}
 use Rattle.std.proofs.lemmas.Bool.{false≢true}
 use Rattle.chain_core.specs.Both.{Starts}
 use Rattle.chain_core.specs.Closing.{ComesTo, EndsRound}
@@ -72,6 +70,7 @@ module _ {m : Meanings} {es : List Event} (sound : IsSoundDevice m) {d : Dispatc
         events = subst (λ i. AreEventsFrom i 0 es) (sym (begun_inputs m es b)) starts.events;
         stands = first.stands ∙ ap₂ (λ c b. record { count = c; board = b }) (sym (no_bodies m es b)) (sym (start_is m es b starts.level));
         read = first.read ∙ nothing_yet m es b;
+        goes = first.goes;
         progress = now ∙ sym (ap₂ (λ (q : Stand) (r : Read). record { board = q.board; bodies = q.count; depth = r.depth; services = length r.services }) first.stands first.read);
         watch = new ∙ sym (begun_watched m es b);
       }

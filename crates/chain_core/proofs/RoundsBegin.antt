@@ -16,7 +16,7 @@ use Rattle.chain_moves.specs.Run.{Made}
 use Rattle.chain_moves.specs.Moves.{move, claims, servicing_machine}
 use Rattle.chain_moves.specs.Cost.{is_fused, is_halfway, price, cost, enter_cost}
 use Rattle.chain_moves.specs.Enter.{is_enter_due, new_frame, entered}
-use Rattle.chain_core.specs.ChainRun.{Read, read_to}
+use Rattle.chain_core.specs.ChainRun.{is_body, Read, read_to}
 use Rattle.chain_moves.specs.Watched.{Watched, with_service}
 use Rattle.chain_moves.specs.Beside.{Rest, board_of}
 use Rattle.chain_core.specs.Progress.{Progress, goes, progress_at}
@@ -34,7 +34,8 @@ use Rattle.chain_core.proofs.EnterRuns.{rest_entered, saved_cause, enter_runs}
 use Rattle.chain_core.proofs.MoveRuns.{with_service as read_service, enter_in_run}
 use Rattle.chain_moves.proofs.Turns.{EntryMeans}
 use Rattle.chain_moves.proofs.Watching.{new_mark, entered_watched}
-use Rattle.chain_core.proofs.Standing.{goes_at, goes_to, StoodFrom, BrokeFrom, SpentFrom, MeansFrom}
+use Rattle.hart_board.specs.Steps.{GoesOnBefore}
+use Rattle.chain_core.proofs.Standing.{goes_at, goes_to, StoodFrom, BrokeFrom, SpentFrom, MeansFrom, goes_before}
 
 -- ---- what a move costs
 pub enter_whole : (d : Dispatcher) (claims : Bool) → is_fused d Enter claims ≡ false
@@ -99,13 +100,14 @@ module _ (m : Meanings) (es : List Event) (from : ℕ) (d : Dispatcher) (bound :
         soft = inl c;
         steps_are = c ∙ sym none;
         within = omega (arith, c, st.within);
+        goes = goes_before m es b (n + 0) n (omega arith) st.goes;
         progress = st.progress ∙ ap (progress_at m es b) (sym none);
         services = ap (λ k. (read_to m es b k).services) none ∙ listed_are;
       }
 
   -- ---- too few steps are left for what is due
-  pub spent_now : (moved : Moved Move Servicing) → move m es s ≡ moved → Late (servicing_machine m es) d start (bound - at) st.made moved → (read_to m es b bound).services ≡ s.services → SpentFrom m es from d bound b start at (goes m es (bound - n) p)
-  spent_now moved e late same =
+  pub spent_now : (moved : Moved Move Servicing) → move m es s ≡ moved → Late (servicing_machine m es) d start (bound - at) st.made moved → (read_to m es b bound).services ≡ s.services → GoesOnBefore m is_body es b bound → SpentFrom m es from d bound b start at (goes m es (bound - n) p)
+  spent_now moved e late same going =
       let c = st.costs in
       record {
         made = st.made;
@@ -113,6 +115,7 @@ module _ (m : Meanings) (es : List Event) (from : ℕ) (d : Dispatcher) (bound :
         leads = st.leads;
         within = omega (arith, c, st.within);
         late = subst (Late (servicing_machine m es) d start (bound - at) st.made) (sym e) late;
+        goes = going;
         progress = ap (goes m es (bound - n)) st.progress ∙ goes_to m es b bound n st.within;
         services = same;
       }
@@ -151,6 +154,7 @@ module _ (m : Meanings) (es : List Event) (from : ℕ) (d : Dispatcher) (bound :
             events = subst (λ i. AreEventsFrom i from es) (sym (entered_inputs s t)) st.events;
             stands = run.stands ∙ ap (λ c. record { count = c; board = board_of (entered s t) (rest_entered s x t) }) (sym (entered_bodies s t));
             read = run.read_after ∙ read_entered s t (read_to m es b n) st.read;
+            goes = run.goes st.goes;
             progress = now;
             watch =
                 ap (λ b. watched_after w b frame) board
@@ -163,7 +167,7 @@ module _ (m : Meanings) (es : List Event) (from : ℕ) (d : Dispatcher) (bound :
         let short : bound - n < 14 = leb-false 14 (bound - n) few in
         let run = enter_in_run m es b n s.bodies d s x st.related runs st.stands t is_top is_due untested in
         let c = next_cost m es d st.made (record { kind = Enter; claims = claims (entered s t) }) at n st.costs st.whole in
-        spent_now (Makes Enter (entered s t)) made (omega (arith, c, short, st.within)) (still_listed 14 (read_to m es b n) run.read_inside refl short)
+        spent_now (Makes Enter (entered s t)) made (omega (arith, c, short, st.within)) (still_listed 14 (read_to m es b n) run.read_inside refl short) (goes_before m es b bound (n + 14) (omega (arith, short)) (run.goes st.goes))
 
     pub entry_round : (e : Entry) → EntryMeans s t (move m es s) e → MeansFrom m es from d bound b start at n (round_entry m es (bound - n) p w e)
     entry_round (Refused kind) h = refused kind h

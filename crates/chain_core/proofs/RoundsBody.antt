@@ -36,7 +36,7 @@ use Rattle.chain_moves.proofs.Bodies.{retires, Raises, Loses, Done as BodyDone, 
 use Rattle.chain_core.proofs.BodyRuns.{body_in_run}
 use Rattle.chain_moves.proofs.Counted.{body_watched}
 use Rattle.chain_core.proofs.Told.{goes_one, gone_turn}
-use Rattle.chain_core.proofs.Standing.{goes_at, StoodFrom, SpentFrom, MeansFrom}
+use Rattle.chain_core.proofs.Standing.{goes_at, StoodFrom, SpentFrom, MeansFrom, goes_before}
 use Rattle.chain_core.proofs.RoundsBegin.{body_whole, next_cost, board_is, bodies_are, listed_are, refused, spent_now}
 
 module _ (m : Meanings) (es : List Event) (sound : IsSoundDevice m) (from : ℕ) (d : Dispatcher) (bound : ℕ) (b : State) (start : Servicing) (at : ℕ) (p : Progress) (w : Watched) (n : ℕ) (st : StoodFrom m es from d bound b start at p w n) where
@@ -60,6 +60,7 @@ module _ (m : Meanings) (es : List Event) (sound : IsSoundDevice m) (from : ℕ)
         let here : bound ≡ n = omega (arith, short, st.within) in
         spent_now m es from d bound b start at p w n st (body m es s) is_body (late_body dead t short)
         (ap (λ k. (read_to m es b k).services) here ∙ listed_are m es from d bound b start at p w n st)
+        (goes_before m es b bound n (omega (arith, here)) st.goes)
 
     -- ---- the step that is tried
     tried_is : (turn : Turn) → tried m (board_of s x) ≡ turn → tried m p.board ≡ turn
@@ -81,6 +82,7 @@ module _ (m : Meanings) (es : List Event) (sound : IsSoundDevice m) (from : ℕ)
           soft = inl c;
           steps_are = c ∙ sym none;
           within = omega (arith, c, room, st.within);
+          goes = goes_before m es b (n + 0) n (omega arith) st.goes;
           progress = same ∙ (st.progress ∙ ap (progress_at m es b) (sym none));
           services = ap (λ k. (read_to m es b k).services) none ∙ listed_are m es from d bound b start at p w n st;
         })
@@ -111,6 +113,7 @@ module _ (m : Meanings) (es : List Event) (sound : IsSoundDevice m) (from : ℕ)
           soft = inl c;
           steps_are = omega (arith, c);
           within = omega (arith, c, room, st.within);
+          goes = run.goes st.goes;
           progress = now;
           services = ap (λ (r : Read). r.services) run.read ∙ listed_are m es from d bound b start at p w n st;
         }))
@@ -136,6 +139,7 @@ module _ (m : Meanings) (es : List Event) (sound : IsSoundDevice m) (from : ℕ)
             events = subst (λ i. AreEventsFrom i from es) (sym g.goes.inputs) st.events;
             stands = run.stands ∙ ap₂ (λ c b. record { count = c; board = b }) (sym g.goes.bodies) g.goes.events;
             read = run.read ∙ (st.read ∙ ap₂ (λ l q. record { depth = length l; services = q }) (sym g.goes.live) (sym g.goes.services));
+            goes = run.goes st.goes;
             progress = now;
             watch = ap (λ (w : Watched). record { live = w.live; dead = dead }) st.watch ∙ sym (body_watched m es s d x dead g);
           },
@@ -179,6 +183,7 @@ module _ (m : Meanings) (es : List Event) (sound : IsSoundDevice m) (from : ℕ)
           costs = st.costs;
           within = st.within;
           ends = move_is [] e;
+          goes = st.goes;
           related = st.related;
           board = board_is m es from d bound b start at p w n st;
           bodies = bodies_are m es from d bound b start at p w n st;

@@ -42,7 +42,7 @@ use Rattle.chain_core.proofs.Readings.{with_return}
 use Rattle.chain_core.proofs.MoveRuns.{InRun, with_service as read_service, leave_in_run, five_in_run, mid_in_run, two_in_run}
 use Rattle.chain_moves.proofs.Turns.{Leaves, Fuses, EntryMeans}
 use Rattle.chain_moves.proofs.Watching.{left_watched, fused_watched}
-use Rattle.chain_core.proofs.Standing.{goes_at, goes_to, StoodFrom, SpentFrom, MeansFrom}
+use Rattle.chain_core.proofs.Standing.{goes_at, goes_to, StoodFrom, SpentFrom, MeansFrom, goes_before}
 use Rattle.chain_core.proofs.RoundsBegin.{enter_whole, next_cost, half_cost, mark_is, read_entered, spent_now, still_listed}
 
 -- a fused pair is the looping dispatcher's
@@ -91,6 +91,7 @@ module _ (m : Meanings) (es : List Event) (sound : IsSoundDevice m) (from : ℕ)
             events = subst (λ (q : Outside). AreEventsFrom q.clic.shape.inputs from es) (sym o.outside) st.events;
             stands = run.stands ∙ ap (λ c. record { count = c; board = board_of (left s u.innermost u.others) (rest_left x u.innermost u.others) }) (sym o.bodies);
             read = run.read_after ∙ read_left s u.innermost u.others (read_to m es b n) u.is_live st.read;
+            goes = run.goes st.goes;
             progress = ap (goes m es 16) st.progress ∙ goes_at m es b 16 n;
             watch = ap without_service st.watch ∙ sym (left_watched s u.innermost u.others u.is_live);
           },
@@ -99,7 +100,7 @@ module _ (m : Meanings) (es : List Event) (sound : IsSoundDevice m) (from : ℕ)
         let short : bound - n < 16 = leb-false 16 (bound - n) few in
         let run = leave_in_run m es b n s.bodies d s x st.related runs st.stands u.innermost u.others u.is_live u.at_back u.calm not_fused in
         let c = next_cost m es d st.made (record { kind = Leave; claims = claims (left s u.innermost u.others) }) at n st.costs st.whole ∙ ap (λ f. n + price Leave false f) u.is_fused in
-        spent_now m es from d bound b start at p w n st (Makes Leave (left s u.innermost u.others)) u.makes (omega (arith, c, short, st.within)) (still_listed m es from d bound b start at p w n st 16 (with_return (read_to m es b n)) run.read_inside refl short)
+        spent_now m es from d bound b start at p w n st (Makes Leave (left s u.innermost u.others)) u.makes (omega (arith, c, short, st.within)) (still_listed m es from d bound b start at p w n st 16 (with_return (read_to m es b n)) run.read_inside refl short) (goes_before m es b bound (n + 16) (omega (arith, short)) (run.goes st.goes))
 
   -- ---- a Leave, and on with the next service
   module _ (e : Entry) (u : Fuses m es d s x (move m es s) e) where
@@ -137,7 +138,7 @@ module _ (m : Meanings) (es : List Event) (sound : IsSoundDevice m) (from : ℕ)
     fuse_short : bound - n < 5 → SpentFrom m es from d bound b start at (goes m es (bound - n) p)
     fuse_short short =
         let c = costs in
-        spent_now m es from d bound b start at p w n st (Makes Leave between) u.leaves.makes (omega (arith, c, short, st.within)) (still_listed m es from d bound b start at p w n st 5 (with_return (read_to m es b n)) five.read_inside refl short)
+        spent_now m es from d bound b start at p w n st (Makes Leave between) u.leaves.makes (omega (arith, c, short, st.within)) (still_listed m es from d bound b start at p w n st 5 (with_return (read_to m es b n)) five.read_inside refl short) (goes_before m es b bound (n + 5) (omega (arith, short)) (five.goes st.goes))
 
     -- the Enter breaks
     pub parted : (kind : Broken) (reaches : Bool) → nat_le fused_leave_cost (bound - n) ≡ reaches → move m es between ≡ Breaks Before kind between.bodies → MeansFrom m es from d bound b start at n (round_parted m es (bound - n) p w reaches kind)
@@ -156,6 +157,7 @@ module _ (m : Meanings) (es : List Event) (sound : IsSoundDevice m) (from : ℕ)
           soft = inr (fused_claims d (claims between) u.leaves.is_fused);
           steps_are = c;
           within = omega (arith, c, room);
+          goes = five.goes st.goes;
           progress = now;
           services = ap (λ (r : Read). r.services) read_five;
         }
@@ -199,6 +201,7 @@ module _ (m : Meanings) (es : List Event) (sound : IsSoundDevice m) (from : ℕ)
             events = subst (λ i. AreEventsFrom i from es) (sym (entered_inputs between t)) (subst (λ (q : Outside). AreEventsFrom q.clic.shape.inputs from es) (sym o.outside) st.events);
             stands = stands ∙ ap (λ c. record { count = c; board = board_of (entered between t) (rest_fused x vs t) }) (sym (entered_bodies between t ∙ o.bodies));
             read = ap (read_to m es b) (sym seven) ∙ (run.read_after ∙ read_entered between t (read_to m es b (n + 5)) read_five);
+            goes = goes_before m es b (n + 7) (n + 5 + 2) (omega arith) (run.goes (five.goes st.goes));
             progress = now;
             watch =
                 ap (λ b. watched_after (without_service w) b frame) board
@@ -232,6 +235,7 @@ module _ (m : Meanings) (es : List Event) (sound : IsSoundDevice m) (from : ℕ)
           leads = leads;
           within = omega (arith, c, l, st.within);
           late = late;
+          goes = goes_before m es b bound (n + 5 + 2) (omega (arith, short)) (run.goes (five.goes st.goes));
           progress = ap (goes m es (bound - n)) st.progress ∙ goes_to m es b bound n st.within;
           services = listed;
         })

@@ -4,7 +4,7 @@ use Rattle.device_model.specs.Meanings.{Meanings}
 use Rattle.hart_board.specs.State.{State}
 use Rattle.hart_board.specs.Step.{step}
 use Rattle.hart_board.specs.Run.{Stand, standing, after_step}
-use Rattle.hart_board.specs.Steps.{stands_at}
+use Rattle.hart_board.specs.Steps.{stands_at, GoesOnBefore}
 use Rattle.hart_board.specs.Event.{AreEventsFrom}
 use Rattle.hart_board.specs.declared.event.Event.{Event}
 use Rattle.hart_report.specs.declared.stepped.Stepped.{Stepped}
@@ -72,6 +72,10 @@ module _ (m : Meanings) (es : List Event) (b : State) where
   pub goes_to : (bound k : ℕ) → k ≤ bound → goes m es (bound - k) (progress_at m es b k) ≡ progress_at m es b bound
   goes_to bound k l = let e : k + (bound - k) ≡ bound = omega arith in goes_at (bound - k) k ∙ ap (progress_at m es b) e
 
+-- a run that goes on for some steps goes on for fewer
+pub goes_before : (m : Meanings) (es : List Event) (b : State) (k n : ℕ) → k ≤ n → GoesOnBefore m is_body es b n → GoesOnBefore m is_body es b k
+goes_before m es b k n few h i early = h i (omega (arith, few, early))
+
 -- ---- no count is above the number of steps
 
 abbrev AtMost : Progress → ℕ → Type 0
@@ -121,6 +125,7 @@ module _ (m : Meanings) (es : List Event) (from : ℕ) (d : Dispatcher) (bound :
       pub events : AreEventsFrom state.outside.clic.shape.inputs from es
       pub stands : chained_at m es b n ≡ record { count = state.bodies; board = board_of state rest }
       pub read : read_to m es b n ≡ record { depth = length state.live; services = state.services }
+      pub goes : GoesOnBefore m is_body es b n
       pub progress : p ≡ progress_at m es b n
       pub watch : w ≡ watched_of state
 
@@ -134,6 +139,7 @@ module _ (m : Meanings) (es : List Event) (from : ℕ) (d : Dispatcher) (bound :
       pub soft : (at + cost (servicing_machine m es) d made ≡ n) ⊎ (claims state ≡ true)
       pub steps_are : at + steps_before when (cost (servicing_machine m es) d made) ≡ steps
       pub within : at + steps_needed when (cost (servicing_machine m es) d made) ≤ bound
+      pub goes : GoesOnBefore m is_body es b steps
       pub progress : p ≡ progress_at m es b steps
       pub services : (read_to m es b steps).services ≡ state.services
 
@@ -146,6 +152,7 @@ module _ (m : Meanings) (es : List Event) (from : ℕ) (d : Dispatcher) (bound :
       pub costs : at + cost (servicing_machine m es) d made ≡ n
       pub within : n ≤ bound
       pub ends : move m es state ≡ MachineEnds
+      pub goes : GoesOnBefore m is_body es b n
       pub related : Related m d state rest
       pub board : p.board ≡ board_of state rest
       pub bodies : p.bodies ≡ state.bodies
@@ -161,6 +168,7 @@ module _ (m : Meanings) (es : List Event) (from : ℕ) (d : Dispatcher) (bound :
       pub leads : Leads (servicing_machine m es) made start state
       pub within : at + cost (servicing_machine m es) d made ≤ bound
       pub late : Late (servicing_machine m es) d start (bound - at) made (move m es state)
+      pub goes : GoesOnBefore m is_body es b bound
       pub progress : p ≡ progress_at m es b bound
       pub services : (read_to m es b bound).services ≡ state.services
 
@@ -179,9 +187,10 @@ module _ (m : Meanings) (es : List Event) (from : ℕ) (d : Dispatcher) (bound :
   abbrev pub Stood : Progress → Watched → ℕ → Type 0
   Stood p w n = StoodFrom (begun m es b) 0 p w n
 
-  -- the machine's run ends so, and the board has made so many steps
+  -- the machine's run ends so, and the board has made so many steps, before each of which its run goes on
   pub record Final (end : ChainEnd) (steps : ℕ) (p : Progress) : Type 0 where
     pub ends : end_at (servicing_machine m es) d bound (begun m es b) ≡ record { end = end; steps = steps }
+    pub goes : GoesOnBefore m is_body es b steps
     pub progress : p ≡ progress_at m es b steps
     pub services : (read_to m es b steps).services ≡ services_within (servicing_machine m es) d bound (begun m es b)
 
@@ -214,6 +223,7 @@ module _ (m : Meanings) (es : List Event) (from : ℕ) (d : Dispatcher) (bound :
       record {
         ends = broken_end (servicing_machine m es) d (begun m es b) bound h.made h.state h.when kind p.bodies h.leads h.breaks (omega (arith, h.within))
             ∙ ap (λ k. record { end = BrokenOff kind p.bodies; steps = k }) steps_are;
+        goes = h.goes;
         progress = h.progress;
         services = h.services ∙ sym (services_are (servicing_machine m es) d (begun m es b) bound h.made h.state h.leads (omega (arith, h.within, needed_more (servicing_machine m es) d h.when c)) (broke_last (servicing_machine m es) d (begun m es b) bound h.made (move m es h.state) h.when kind p.bodies h.breaks));
       }
@@ -227,6 +237,7 @@ module _ (m : Meanings) (es : List Event) (from : ℕ) (d : Dispatcher) (bound :
           ends = done_end (servicing_machine m es) d (begun m es b) bound h.made h.state h.leads h.ends (omega (arith, c, h.within))
               ∙ (ap (λ k. record { end = Done k h.state.bodies (length h.state.services); steps = k }) c
               ∙ ap₂ (λ i j. record { end = Done n i j; steps = n }) (sym h.bodies) (sym many));
+          goes = h.goes;
           progress = h.progress;
           services = h.services ∙ sym (services_are (servicing_machine m es) d (begun m es b) bound h.made h.state h.leads (omega (arith, c, h.within)) (over_last (servicing_machine m es) d (begun m es b) bound h.made (move m es h.state) h.ends));
         },
@@ -248,6 +259,7 @@ module _ (m : Meanings) (es : List Event) (from : ℕ) (d : Dispatcher) (bound :
       let late : Late (servicing_machine m es) d (begun m es b) bound h.made (move m es h.state) = subst (λ k. Late (servicing_machine m es) d (begun m es b) k h.made (move m es h.state)) all h.late in
       record {
         ends = spent_end (servicing_machine m es) d (begun m es b) bound h.made h.state h.leads late;
+        goes = h.goes;
         progress = h.progress;
         services = h.services ∙ sym (services_are (servicing_machine m es) d (begun m es b) bound h.made h.state h.leads (omega (arith, h.within)) (late_last (servicing_machine m es) d (begun m es b) bound h.made (move m es h.state) late));
       }

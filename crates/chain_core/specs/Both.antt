@@ -31,14 +31,18 @@ pub record Starts (m : Meanings) (es : List Event) (d : Dispatcher) (b : State) 
   pub level : b.csrs.mil ≡ 0
 
 -- two boards at the ends of their chains: the same but for dispatch code, dead bytes, and what the last trap saved
-pub record SameBoards (dead : ℕ → Type 0) (b c : State) : Type 0 where
+pub record SameBoards (alive : ℕ → Type 0) (b c : State) : Type 0 where
   pub registers : b.registers ≡ c.registers
   pub pc : b.pc ≡ c.pc
   pub mstatus : (b.csrs.mie ≡ c.csrs.mie) × (b.csrs.mpie ≡ c.csrs.mpie)
   pub scratch : b.csrs.mscratch ≡ c.csrs.mscratch
+  pub threshold : b.csrs.th ≡ c.csrs.th
+  pub table : b.csrs.mtvt ≡ c.csrs.mtvt
+  pub vector : b.csrs.mtvec_base ≡ c.csrs.mtvec_base
+  pub level : b.csrs.mil ≡ c.csrs.mil
   pub outside : b.outside ≡ c.outside
   pub rom : (j : ℕ) → in_slot j ≡ false → slice_index b.memory.rom j ≡ slice_index c.memory.rom j
-  pub ram : (j : ℕ) → dead j → slice_index b.memory.ram j ≡ slice_index c.memory.ram j
+  pub ram : (j : ℕ) → alive j → slice_index b.memory.ram j ≡ slice_index c.memory.ram j
 
 -- both chains made the same moves, and the returning one 23 steps more for each Enter straight after a Leave
 pub record BothAgree (m : Meanings) (es : List Event) (b c : State) (one other : ℕ) (steps more bodies bodies' services services' : ℕ) : Type 0 where

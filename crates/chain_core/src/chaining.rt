@@ -1,7 +1,8 @@
 // A chain to its end.
 ghost use Rattle.std.specs.Prelude.{◌≡◌, true, IfOk, IfErr, IsTrue};
 ghost use Rattle.board_outside.specs.Sink.{Writes};
-ghost use Rattle.chain_core.specs.ChainRun.{read_to};
+ghost use Rattle.hart_board.specs.Steps.{GoesOnBefore};
+ghost use Rattle.chain_core.specs.ChainRun.{is_body, read_to};
 ghost use Rattle.chain_moves.specs.Words.{HasDispatcher};
 ghost use Rattle.chain_moves.specs.Watched.{nothing_watched};
 ghost use Rattle.chain_moves.specs.Moves.{servicing_machine};
@@ -124,6 +125,8 @@ pub fn chain<D: Device, W: Sink>(
     ensures stopped { result ≡ SinkFailed → Stops D.means events.now.list dispatcher trace bound board.old board.new (W.told out.old) (W.told out.new) }
     // The services read off the board's run are those of the servicing machine within the bound.
     ensures services { (read_to D.means events.now.list board.old (chain_end D.means events.now.list dispatcher bound board.old).steps).services ≡ services_within (servicing_machine D.means events.now.list) dispatcher bound (begun D.means events.now.list board.old) }
+    // Until then the board's run goes on: none of those steps finds that it has halted, or finds no vector.
+    ensures goes { GoesOnBefore D.means is_body events.now.list board.old (chain_end D.means events.now.list dispatcher bound board.old).steps }
     // Where the chain is done, the board agrees with the servicing machine's last state.
     ensures state { AgreesWhereDone (chain_end D.means events.now.list dispatcher bound board.old).end (board_after D.means events.now.list dispatcher bound board.old) (machine_run D.means events.now.list bound board.old) }
     ensures kept { board.new.kept ≡ board.old.kept }

@@ -23,12 +23,13 @@ ghost use Rattle.chain_moves.specs.Start.{with_slot, begun};
 ghost use Rattle.chain_core.specs.Chain.{chain_end};
 ghost use Rattle.chain_core.specs.Both.{with_slot_bytes, Starts, BothAgree};
 ghost use Rattle.chain_core.specs.Example.{nothing, halted, start, at_ecall, in_handler, events, shown};
+ghost use Rattle.chain_moves.specs.declared.broken.Broken.{Broken};
 ghost use Rattle.chain_moves.specs.declared.broken.Broken.TheVariants.{HaltInHandler, Exception};
 ghost use Rattle.chain_moves.specs.declared.moves.Move.{Move};
 ghost use Rattle.chain_moves.specs.declared.dispatcher.Dispatcher.{Dispatcher};
 ghost use Rattle.chain_moves.specs.declared.dispatcher.Dispatcher.TheVariants.{Looping, Returning};
 ghost use Rattle.chain_core.specs.declared.chain_end.ChainEnd.{ChainEnd};
-ghost use Rattle.chain_core.specs.declared.chain_end.ChainEnd.TheVariants.{Done};
+ghost use Rattle.chain_core.specs.declared.chain_end.ChainEnd.TheVariants.{Done, Broken as BrokenOff};
 
 use device_model::Device;
 
@@ -118,4 +119,11 @@ pub fn both_dispatchers_agree<D: Device>()
     ensures { (es : List Event) (one other : ℕ) (b : State) (bytes : List ℕ) (steps bodies services at more also listed then : ℕ) → length bytes ≡ slot_end - base → Starts D.means es Looping b → Starts D.means es Returning (with_slot_bytes bytes b)
         → chain_end D.means es Looping one b ≡ record { end = Done steps bodies services; steps = at } → chain_end D.means es Returning other (with_slot_bytes bytes b) ≡ record { end = Done more also listed; steps = then }
         → BothAgree D.means es b (with_slot_bytes bytes b) one other steps more bodies also services listed }
+{}
+
+/// A chain that is broken under both dispatchers, on boards that differ in the slot's bytes alone and
+/// with one list of events, is broken by the same test, after as many bodies.
+pub fn a_chain_is_broken_alike<D: Device>()
+    ensures { (es : List Event) (d e : Dispatcher) (one other : ℕ) (b : State) (bytes : List ℕ) (kind also : Broken) (bodies more : ℕ) → slot_end ≤ length b.memory.rom → length bytes ≡ slot_end - base
+        → (chain_end D.means es d one b).end ≡ BrokenOff kind bodies → (chain_end D.means es e other (with_slot_bytes bytes b)).end ≡ BrokenOff also more → (kind ≡ also) × (bodies ≡ more) }
 {}

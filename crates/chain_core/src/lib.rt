@@ -14,6 +14,7 @@ pub mod stepping;
 mod telling;
 
 pub use chain_end::ChainEnd;
+pub use chain_moves::{Broken, Dispatcher, Watch, dispatch_word, install, slot_taken};
 pub use chaining::{can_start, chain};
 pub use course::Course;
 pub use ended::Ended;

@@ -1,12 +1,12 @@
 // Rounds of a chain: the move that is due, or a Leave with the Enter that it is fused with.
-ghost use Rattle.std.specs.Prelude.{◌≡◌, ℕ, false, nat_le, IfOk, None};
+ghost use Rattle.std.specs.Prelude.{◌≡◌, ℕ, true, false, nat_le, IfOk, None};
 ghost use Rattle.hart_memory.specs.Place.{place};
 ghost use Rattle.chain_moves.specs.Bytes.{revived_at};
 ghost use Rattle.chain_moves.specs.Cost.{body_cost, enter_cost, leave_cost, fused_leave_cost};
 ghost use Rattle.chain_moves.specs.Servicing.{is_foreground};
 ghost use Rattle.chain_moves.specs.Tests.{is_lost};
-ghost use Rattle.chain_moves.specs.Judge.{judge_body, judge_turn};
-ghost use Rattle.chain_moves.specs.Ready.{verdict_of, revived_by, is_body_due, turn_of};
+ghost use Rattle.chain_moves.specs.Judge.{refused_or, judge_body, judge_turn};
+ghost use Rattle.chain_moves.specs.Ready.{verdict_by, verdict_of, revived_by, is_open, is_body_due, turn_of};
 ghost use Rattle.clic_select.specs.Top.{top};
 ghost use Rattle.clic_trap.specs.Due.{due};
 ghost use Rattle.hart_board.specs.Prepared.{IsPrepared};
@@ -20,7 +20,7 @@ use crate::course::Course;
 use crate::round::Round;
 use crate::stepping::{try_body, walk};
 use board_outside::{Sink, SinkFault};
-use chain_moves::due::{is_body_due, is_open, judge_body, judge_dispatch, judge_open};
+use chain_moves::due::{is_body_due, is_open, judge_body, judge_dispatch, open_test};
 use chain_moves::kept::all;
 use chain_moves::{Broken, Dispatcher, Entry, Mark, Next, Watch};
 use device_model::Device;
@@ -259,7 +259,6 @@ fn fuse<D: Device, W: Sink>(
 }
 
 // A body, by what its tests came to.
-#[inline(always)]
 fn carry_judged<D: Device, W: Sink>(
     board: &mut Board<D>,
     watch: &mut Watch,
@@ -286,9 +285,9 @@ fn carry_judged<D: Device, W: Sink>(
     }
 }
 
-// A body, whatever place its instruction has, and however many steps are left.
-#[inline(never)]
-fn body_anywhere<D: Device, W: Sink>(
+// A body, by the test of its instruction that holds, if one does.
+#[inline(always)]
+fn carry_tested<D: Device, W: Sink>(
     board: &mut Board<D>,
     watch: &mut Watch,
     events: &Events,
@@ -296,7 +295,11 @@ fn body_anywhere<D: Device, W: Sink>(
     trace: bool,
     out: &mut W,
     left: u64,
+    test: Option<Broken>,
+    prepared: &Prepared,
 ) -> Result<Round, SinkFault>
+    requires verdict { refused_or test (verdict_by prepared.now.effect) ≡ judge_body board.old watch.old }
+    requires prepared { IsPrepared board.old prepared.now }
     requires runs { D.means.halted board.old.outside.device ≡ None }
     requires calm { due board.old.csrs (top board.old.outside.clic) ≡ false }
     requires room { HasRoom course.old left }
@@ -305,12 +308,13 @@ fn body_anywhere<D: Device, W: Sink>(
     ensures made { let due = round_verdict D.means events.now.list left (progress_of board.old course.old) watch.old (judge_body board.old watch.old) in
         IsMade D.means events.now.list trace left due result (progress_of board.old course.old) (progress_of board.new course.new) watch.new (W.told out.old) (W.told out.new) }
 {
-    let judged = judge_body(board, watch);
-    carry_judged(board, watch, events, course, trace, out, left, judged)
+    match test {
+        None => carry_out(board, watch, events, course, trace, out, left, prepared),
+        Some(kind) => Ok(Round::Failed(kind, 0)),
+    }
 }
 
-// A body. One whose instruction is in the open, and for which a step is left, goes by the fewest tests.
-#[inline(always)]
+// A body, whatever place its instruction has, and whether it is known or not.
 fn body<D: Device, W: Sink>(
     board: &mut Board<D>,
     watch: &mut Watch,
@@ -328,12 +332,7 @@ fn body<D: Device, W: Sink>(
     ensures made { let due = round_verdict D.means events.now.list left (progress_of board.old course.old) watch.old (judge_body board.old watch.old) in
         IsMade D.means events.now.list trace left due result (progress_of board.old course.old) (progress_of board.new course.new) watch.new (W.told out.old) (W.told out.new) }
 {
-    if left < BODY_COST || !is_open(board.pc()) {
-        // The name keeps the answer of the path below in registers: it saves 17 instructions a step.
-        let told = body_anywhere(board, watch, events, course, trace, out, left);
-        return told;
-    }
-    let judged = judge_open(board, watch);
+    let judged = judge_body(board, watch);
     carry_judged(board, watch, events, course, trace, out, left, judged)
 }
 
@@ -364,7 +363,6 @@ fn make<D: Device, W: Sink>(
 }
 
 // The move that is due, on a board that hasn't halted, where it isn't a body.
-#[inline(never)]
 fn dispatch<D: Device, W: Sink>(
     board: &mut Board<D>,
     watch: &mut Watch,
@@ -386,6 +384,74 @@ fn dispatch<D: Device, W: Sink>(
 {
     let next = judge_dispatch(d, board, watch);
     make(board, watch, events, course, trace, out, left, next)
+}
+
+// The move that is due, on a board that hasn't halted, whatever it is.
+#[inline(never)]
+fn make_any<D: Device, W: Sink>(
+    board: &mut Board<D>,
+    watch: &mut Watch,
+    events: &Events,
+    course: &mut Course,
+    trace: bool,
+    out: &mut W,
+    left: u64,
+    d: Dispatcher,
+) -> Result<Round, SinkFault>
+    requires runs { D.means.halted board.old.outside.device ≡ None }
+    requires enters { EntersFit watch.old (judge_turn d board.old watch.old) }
+    requires fuses { FusesFit watch.old (judge_turn d board.old watch.old) }
+    requires room { HasRoom course.old left }
+    requires course { IsOnCourse D.means events.now board.old course.old }
+    ensures course { IsOnCourse D.means events.now board.new course.new }
+    ensures made { let due = round_due D.means events.now.list left (progress_of board.old course.old) watch.old (judge_turn d board.old watch.old) in
+        IsMade D.means events.now.list trace left due result (progress_of board.old course.old) (progress_of board.new course.new) watch.new (W.told out.old) (W.told out.new) }
+{
+    if is_body_due(board, watch) {
+        return body(board, watch, events, course, trace, out, left);
+    }
+    dispatch(board, watch, events, course, trace, out, left, d)
+}
+
+// The same by a call. A place for its answer is made here, so that a body in the open makes none, and has
+// its own answer in registers.
+#[inline(always)]
+fn make_far<D: Device, W: Sink>(
+    board: &mut Board<D>,
+    watch: &mut Watch,
+    events: &Events,
+    course: &mut Course,
+    trace: bool,
+    out: &mut W,
+    left: u64,
+    d: Dispatcher,
+) -> Result<Round, SinkFault>
+    requires runs { D.means.halted board.old.outside.device ≡ None }
+    requires enters { EntersFit watch.old (judge_turn d board.old watch.old) }
+    requires fuses { FusesFit watch.old (judge_turn d board.old watch.old) }
+    requires room { HasRoom course.old left }
+    requires course { IsOnCourse D.means events.now board.old course.old }
+    ensures course { IsOnCourse D.means events.now board.new course.new }
+    ensures made { let due = round_due D.means events.now.list left (progress_of board.old course.old) watch.old (judge_turn d board.old watch.old) in
+        IsMade D.means events.now.list trace left due result (progress_of board.old course.old) (progress_of board.new course.new) watch.new (W.told out.old) (W.told out.new) }
+{
+    let told = make_any(board, watch, events, course, trace, out, left, d);
+    told
+}
+
+// Whether a body is due that goes by the fewest tests: its place is open, and a step is left for it.
+#[inline(always)]
+fn is_open_body<D: Device>(board: &Board<D>, watch: &Watch, left: u64) -> bool
+    ensures due { result ≡ true → is_body_due board.now watch.now ≡ true }
+    ensures open { result ≡ true → is_open board.now.pc ≡ true }
+{
+    if left < BODY_COST {
+        return false;
+    }
+    if !is_body_due(board, watch) {
+        return false;
+    }
+    is_open(board.pc())
 }
 
 /// A round, of which at most so many steps are made that are left.
@@ -412,12 +478,15 @@ pub fn round<D: Device, W: Sink>(
     match board.halted() {
         Some(_) => Ok(halt(watch)),
         None => {
-            if is_body_due(board, watch) {
-                return body(board, watch, events, course, trace, out, left);
+            if is_open_body(board, watch, left) {
+                if let Some(prepared) = board.known() {
+                    let test = open_test(board, watch, &prepared);
+                    return carry_tested(
+                        board, watch, events, course, trace, out, left, test, &prepared,
+                    );
+                }
             }
-            // As in `body`: the name keeps the answer of a body in registers.
-            let told = dispatch(board, watch, events, course, trace, out, left, d);
-            told
+            make_far(board, watch, events, course, trace, out, left, d)
         }
     }
 }

@@ -1,6 +1,7 @@
 // Steps of a chain, with what is counted and written of them.
 ghost use Rattle.std.specs.Prelude.{◌≡◌, ◌<◌, ◌+◌, ◌^◌, ℕ, true, false, None, is_ok, IfOk};
 ghost use Rattle.board_outside.specs.Sink.{Writes};
+ghost use Rattle.hart_report.specs.Trace.{step_text};
 ghost use Rattle.hart_board.specs.State.{State};
 ghost use Rattle.hart_board.specs.Run.{Stand, standing};
 ghost use Rattle.clic_select.specs.Top.{top};
@@ -94,6 +95,15 @@ fn raised_code(told: &Stepped) -> Option<u16>
     }
 }
 
+// The line of a step. A place for the step is made here, so that one that isn't told makes none.
+#[inline(always)]
+fn tell_step<W: Sink>(trace: bool, told: &Stepped, out: &mut W) -> Result<(), SinkFault>
+    ensures { Writes (is_ok result) (W.told out.old) (W.told out.new) (step_text trace told.now) }
+{
+    let told = *told;
+    put_step(trace, &told, out)
+}
+
 // What follows a body: events come, and its line is written. No call and no return is counted.
 #[inline(always)]
 fn settle_body<D: Device, W: Sink>(
@@ -115,9 +125,7 @@ fn settle_body<D: Device, W: Sink>(
 {
     arrive(board, events, course, told);
     if trace {
-        // The copy keeps the step itself in registers: only here is its place needed.
-        let told = *told;
-        put_step(trace, &told, out)
+        tell_step(trace, told, out)
     } else {
         Ok(())
     }

@@ -6,7 +6,6 @@ use Rattle.hart_board.specs.State.{State}
 use Rattle.hart_board.specs.Run.{Stand}
 use Rattle.hart_board.specs.declared.event.Event.{Event}
 use Rattle.chain_moves.specs.Judge.{judge_turn}
-use Rattle.chain_moves.specs.declared.turn.Turn.TheVariants.{Enter}
 use Rattle.chain_moves.specs.Servicing.{Service, Servicing}
 use Rattle.chain_moves.specs.Machine.{Machine}
 use Rattle.chain_moves.specs.Run.{Made, Leads}
@@ -82,6 +81,7 @@ module _ (m : Meanings) (es : List Event) (sound : IsSoundDevice m) (from : ℕ)
       events = st.events;
       stands = stands;
       read = st.read;
+      goes = st.goes;
       progress = st.progress;
       watch = st.watch;
     }
@@ -122,6 +122,7 @@ module _ (m : Meanings) (es : List Event) (sound : IsSoundDevice m) (from : ℕ)
           count = ap (λ (at : Stand). at.count) h.stands;
           events = h.events;
           read = h.read;
+          goes = h.goes;
           listed = listed_is k h.made h.state r soft (ap (λ y. y.services) h.read);
           counted = many h.made h.state r;
           progress = h.progress;
@@ -143,7 +144,7 @@ module _ (m : Meanings) (es : List Event) (sound : IsSoundDevice m) (from : ℕ)
         (breaks_on m es s h.state x h.made r.listed h.when kind q.bodies quiet h.leads short h.breaks)
         (let within = h.within in omega (arith, needed, within))
         (ap (steps_before h.when) c ∙ (before_on h.when n (cost (servicing_machine m es) d h.made) ∙ h.steps_are))
-        refl h.progress (listed_is k h.made h.state r soft h.services)
+        refl h.progress (listed_is k h.made h.state r soft h.services) h.goes
 
     over : (q : Progress) (w' : Watched) → OverFrom m es from d bound b s n n q w' → DirectMeans m es from d bound b n Ended q (with_chained w w')
     over q w' h =
@@ -156,7 +157,7 @@ module _ (m : Meanings) (es : List Event) (sound : IsSoundDevice m) (from : ℕ)
         let all = many h.made h.state r in
         let sum : q.services + w.begun ≡ length r.listed = omega (arith, services, all) in
         let listed : begun_to m es b n ≡ r.listed = ap (begun_to m es b) (sym here) ∙ listed_is 0 h.made h.state r (λ j few. absurd (omega (arith, few))) (ap (λ i. (read_to m es b i).services) here ∙ h.services) in (
-          final_over m es from d bound b (all_plain h.made ++ st.made) (alone h.state r.listed) n q (with_chained w w') leads ends c st.within h.bodies sum h.progress listed,
+          final_over m es from d bound b (all_plain h.made ++ st.made) (alone h.state r.listed) n q (with_chained w w') leads ends c st.within h.bodies sum h.progress listed h.goes,
           record {
             made = all_plain h.made ++ st.made;
             state = alone h.state r.listed;
@@ -180,7 +181,7 @@ module _ (m : Meanings) (es : List Event) (sound : IsSoundDevice m) (from : ℕ)
         (late_on m es d n bound st.made first s h.state h.made r.listed st.whole st.costs st.within h.late)
         (let within = h.within in omega (arith, c, within))
         h.progress
-        (ap (begun_to m es b) (sym all) ∙ listed_is (bound - n) h.made h.state r soft (ap (λ i. (read_to m es b i).services) all ∙ h.services))
+        (ap (begun_to m es b) (sym all) ∙ listed_is (bound - n) h.made h.state r soft (ap (λ i. (read_to m es b i).services) all ∙ h.services)) h.goes
 
     by_told : (quiet : hard_due m (board_of s x) ≡ None) (t : Round) (q : Progress) (w' : Watched) → ((j : ℕ) → j < steps_made (bound - n) t → Soft m es b (n + j)) → RoundMeansFrom m es from d bound b s n n t q w' → DirectMeans m es from d bound b n t q (with_chained w w')
     by_told quiet (RoundMade k) q w' soft (some, h) = (some, went k q w' soft h)

@@ -9,15 +9,12 @@ use Rattle.device_model.specs.Meanings.{Meanings, IsSound as IsSoundDevice}
 use Rattle.hart_report.specs.Text.{StopsAfter}
 use Rattle.hart_report.proofs.Texts.{same_text}
 use Rattle.hart_board.specs.State.{State}
-use Rattle.hart_board.specs.Valid.{IsBoard}
-use Rattle.hart_board.specs.Event.{AreEventsFrom, with_events}
-use Rattle.hart_board.specs.Steps.{board_at}
+use Rattle.hart_board.specs.Event.{with_events}
+use Rattle.hart_board.specs.Steps.{board_at, GoesOnBefore}
 use Rattle.hart_board.specs.declared.event.Event.{Event}
-use Rattle.chain_moves.specs.Words.{HasDispatcher}
 use Rattle.chain_core.specs.ChainRun.{is_body}
 use Rattle.chain_core.specs.End.{services_within}
 use Rattle.chain_core.specs.Progress.{Progress}
-use Rattle.chain_core.specs.Text.{report}
 use Rattle.chain_core.specs.Chain.{is_whole, is_done}
 use Rattle.chain_moves.specs.declared.dispatcher.Dispatcher.{Dispatcher}
 use Rattle.chain_core.specs.declared.ended.Ended.{Ended}
@@ -27,7 +24,7 @@ use Rattle.chain_core.specs.declared.round.Round.{Round}
 use Rattle.chain_core.specs.declared.round.Round.TheVariants.{Made, Failed, Ended as RoundEnded, Spent}
 use Rattle.chain_core.proofs.ChainEnds.{agrees}
 use Rattle.chain_direct.specs.DirectMoves.{direct_machine, direct_start}
-use Rattle.chain_direct.specs.DirectText.{text_after, text_to, direct_end, direct_run, dead_in_run, direct_board, direct_report}
+use Rattle.chain_direct.specs.DirectText.{text_after, text_to, direct_end, direct_run, direct_board, direct_report}
 use Rattle.chain_direct.specs.DirectWatched.{DirectWatched, nothing_direct}
 use Rattle.chain_direct.specs.DirectChain.{begun_to, StopsInStep, StopsDirect, AgreesOver, AgreesWhereOver}
 use Rattle.chain_direct.specs.DirectRounds.{direct_round}
@@ -73,6 +70,10 @@ module _ (m : Meanings) (es : List Event) (sound : IsSoundDevice m) (from : ℕ)
     -- the services that are read off the board's run
     services_are : begun_to m es b (direct_end m es d bound b).steps ≡ services_within (direct_machine m es) d bound (direct_start m es b)
     services_are = ap (λ (k : Ended). begun_to m es b k.steps) e.final.ends ∙ e.final.services
+
+    -- until there the board's run goes on
+    goes_are : GoesOnBefore m is_body es b (direct_end m es d bound b).steps
+    goes_are = subst (λ (k : Ended). GoesOnBefore m is_body es b k.steps) (sym e.final.ends) e.final.goes
 
     -- ---- the state
     board_is : e.progress.board ≡ direct_board m es d bound b
@@ -133,6 +134,9 @@ module _ {m : Meanings} {es : List Event} (sound : IsSoundDevice m) {d : Dispatc
 
   pub services_from : begun_to m es b (direct_end m es d bound b).steps ≡ services_within (direct_machine m es) d bound (direct_start m es b)
   services_from = services_are m es sound 0 d bound b (direct_from sound bound starts)
+
+  pub goes_from : GoesOnBefore m is_body es b (direct_end m es d bound b).steps
+  goes_from = goes_are m es sound 0 d bound b (direct_from sound bound starts)
 
   pub state_from : AgreesWhereOver (direct_end m es d bound b).end (direct_board m es d bound b) (direct_run m es bound b)
   state_from = state_is m es sound 0 d bound b (direct_from sound bound starts)

@@ -39,7 +39,7 @@ use Rattle.chain_core.proofs.Bounded.{Late}
 use Rattle.chain_core.proofs.BodyRuns.{body_in_run}
 use Rattle.chain_core.proofs.RoundsBegin.{body_whole}
 use Rattle.chain_core.proofs.Told.{goes_one, gone_turn, events_hart}
-use Rattle.chain_core.proofs.Standing.{goes_at}
+use Rattle.chain_core.proofs.Standing.{goes_at, goes_before}
 use Rattle.chain_direct.specs.Kind.{Kind, Begin, Plain, costs_as}
 use Rattle.chain_direct.specs.Directed.{Direct, Listed, Directed}
 use Rattle.chain_direct.specs.DirectBody.{are_same, direct_body}
@@ -154,6 +154,7 @@ module _ (m : Meanings) (es : List Event) (sound : IsSoundDevice m) (from : ℕ)
             count = ap (λ (q : Stand). q.count) run.stands ∙ sym g.bodies;
             events = subst (λ i. AreEventsFrom i from es) (sym g.inputs) st.events;
             read = run.read ∙ (st.read ∙ ap₂ (λ y z. record { depth = length y; services = z }) (sym g.frames) (sym chained_services));
+            goes = run.goes st.goes;
             listed = ap (begun_to m es b) one_more ∙ (begun_next m es b n ∙ (ap₂ (λ y z. y ++ z) st.listed (run.begins ∙ ap (λ k. record { direct = true; service = record { number = t.id; level = t.level; depth = suc k } } ∷ []) depth) ∙ sym g.services));
             counted = omega (arith, counted, longer, chained);
             progress = now;
@@ -229,7 +230,7 @@ module _ (m : Meanings) (es : List Event) (sound : IsSoundDevice m) (from : ℕ)
           let lost : are_same v.kept (goes m es 1 p).board.registers 32 ≡ false = ap (λ l. are_same v.kept l 32) (registers_now r.encoding r.new r.steps r.outside) ∙ r.lost in
           let bodies : (goes m es 1 p).bodies ≡ s.chained.bodies + 1 = ap (λ (q : Progress). q.bodies) now ∙ ap (λ (q : Stand). q.count) run.stands in
           subst (λ k. DirectSays m es from d bound b n (record { told = ended_round k; progress = goes m es 1 p; watch = without_direct w })) (sym lost)
-          (final_broken m es from d bound b st.made s After RegisterLost (s.chained.bodies + 1) (n + 1) (goes m es 1 p) st.leads (is_body ∙ r.breaks) (omega (arith, c, within, room)) (ap (λ k. k + 1) c) bodies now (still s.chained.pc r.encoding r.new r.steps r.outside))
+          (final_broken m es from d bound b st.made s After RegisterLost (s.chained.bodies + 1) (n + 1) (goes m es 1 p) st.leads (is_body ∙ r.breaks) (omega (arith, c, within, room)) (ap (λ k. k + 1) c) bodies now (still s.chained.pc r.encoding r.new r.steps r.outside) (run.goes st.goes))
 
       return_goes : 1 ≤ bound - n → ReturnGoes m es d s v x → DirectSays m es from d bound b n (round_returned (goes m es 1 p) w v.kept)
       return_goes room g =
@@ -253,6 +254,7 @@ module _ (m : Meanings) (es : List Event) (sound : IsSoundDevice m) (from : ℕ)
               count = ap (λ (q : Stand). q.count) there;
               events = subst (λ i. AreEventsFrom i from es) (sym g.inputs) st.events;
               read = run.read ∙ (st.read ∙ ap₂ (λ y z. record { depth = length y; services = z }) (sym g.live) (sym chained));
+              goes = run.goes st.goes;
               listed = still s.chained.pc g.encoding g.new g.steps g.outside ∙ sym g.services;
               counted = ap (λ l. w.begun + length l) chained ∙ (st.counted ∙ ap length (sym g.services));
               progress = now;
@@ -278,7 +280,7 @@ module _ (m : Meanings) (es : List Event) (sound : IsSoundDevice m) (from : ℕ)
           let same : record p { board = a } ≡ p = ap (λ b. record p { board = b }) (sym live_board) in
           let is : tried m p.board ≡ record { told = Raised s.chained.pc r.trap.code; state = a } = ap (tried m) live_board ∙ r.tries in
           subst (λ (turn : Turn). DirectSays m es from d bound b n (round_direct_turn m es p w dead turn)) (sym is)
-          (final_broken m es from d bound b st.made s Within (Exception r.trap.code) s.chained.bodies (n + 0) (record p { board = a }) st.leads (is_body ∙ r.breaks) (omega (arith, c, within, room)) (c ∙ sym none) (bodies_are m es from d bound b p w n st) (same ∙ (st.progress ∙ ap (progress_at m es b) (sym none))) (ap (begun_to m es b) none ∙ st.listed))
+          (final_broken m es from d bound b st.made s Within (Exception r.trap.code) s.chained.bodies (n + 0) (record p { board = a }) st.leads (is_body ∙ r.breaks) (omega (arith, c, within, room)) (c ∙ sym none) (bodies_are m es from d bound b p w n st) (same ∙ (st.progress ∙ ap (progress_at m es b) (sym none))) (ap (begun_to m es b) none ∙ st.listed) (goes_before m es b (n + 0) n (omega arith) st.goes))
 
       going : (dead : List Bool) → 1 ≤ bound - n → DirectGoes m es d s v x dead → DirectSays m es from d bound b n (round_direct_turn m es p w dead (tried m p.board))
       going dead room g =
@@ -302,6 +304,7 @@ module _ (m : Meanings) (es : List Event) (sound : IsSoundDevice m) (from : ℕ)
               count = ap (λ (q : Stand). q.count) there;
               events = subst (λ i. AreEventsFrom i from es) (sym g.inputs) st.events;
               read = run.read ∙ (st.read ∙ ap₂ (λ y z. record { depth = length y; services = z }) (sym g.live) (sym chained));
+              goes = run.goes st.goes;
               listed = still s.chained.pc g.encoding g.new g.steps g.outside ∙ sym g.services;
               counted = ap (λ l. w.begun + length l) chained ∙ (st.counted ∙ ap length (sym g.services));
               progress = turn_now (record { told = Retired s.chained.pc g.encoding.bits g.encoding.length; state = g.new }) g.steps;

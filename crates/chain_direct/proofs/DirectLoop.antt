@@ -8,14 +8,12 @@ use Rattle.hart_report.specs.declared.stepped.Stepped.{Stepped}
 use Rattle.hart_report.specs.declared.stepped.Stepped.TheVariants.{Retired, Interrupted, Raised, Halted, VectorFault}
 use Rattle.clic_select.specs.Top.{top}
 use Rattle.hart_board.specs.State.{State}
-use Rattle.hart_board.specs.Valid.{IsBoard}
 use Rattle.hart_board.specs.Event.{AreEventsFrom, with_events}
 use Rattle.hart_board.specs.Step.{step}
 use Rattle.hart_board.specs.Run.{Stand}
 use Rattle.hart_board.specs.Steps.{board_at}
 use Rattle.hart_board.specs.declared.event.Event.{Event}
 use Rattle.chain_moves.specs.Slot.{call}
-use Rattle.chain_moves.specs.Words.{HasDispatcher}
 use Rattle.chain_moves.specs.Cost.{cost}
 use Rattle.chain_moves.specs.Start.{begun}
 use Rattle.chain_core.specs.ChainRun.{is_body, Read, nothing_read, read_to}
@@ -44,7 +42,7 @@ use Rattle.chain_direct.proofs.DirectStanding.{DirectStood, DirectFinal, DirectH
 use Rattle.chain_direct.proofs.DirectRoundMeans.{direct_means, direct_told, direct_cut}
 use Rattle.chain_core.specs.declared.chain_end.ChainEnd.TheVariants.{Done, BudgetSpent, Broken as BrokenOff}
 use Rattle.chain_core.specs.declared.round.Round.TheVariants.{Made, Failed, Ended as RoundEnded, Spent}
-use Rattle.std.specs.Prelude.{Result, Ok, Err, IsTrue}
+use Rattle.std.specs.Prelude.{Ok, Err, IsTrue}
 use Rattle.std.proofs.lemmas.Bool.{false≢true}
 use Rattle.chain_core.specs.Both.{Starts}
 use Rattle.chain_core.specs.Chain.{is_done}
@@ -129,6 +127,7 @@ module _ {m : Meanings} {es : List Event} (sound : IsSoundDevice m) {d : Dispatc
         count = ap (λ (q : Stand). q.count) stands;
         events = subst (λ i. AreEventsFrom i 0 es) (sym (begun_inputs m es b)) starts.events;
         read = first.read ∙ nothing_yet m es b;
+        goes = first.goes;
         listed = none_first m es b ∙ sym (none_listed m es b);
         counted = omega (arith, begun_none, one, two);
         progress = now ∙ sym (ap₂ (λ (q : Stand) (r : Read). record { board = q.board; bodies = q.count; depth = r.depth; services = length r.services }) first.stands first.read);

@@ -30,7 +30,6 @@ use Rattle.chain_core.specs.Text.{turn_text, next_text, steps_text, Cut, Tells}
 use Rattle.chain_core.specs.Rounds.{raised_code, steps_made}
 use Rattle.chain_moves.specs.declared.broken.Broken.{Broken}
 use Rattle.chain_moves.specs.declared.dispatcher.Dispatcher.{Dispatcher}
-use Rattle.chain_moves.specs.declared.turn.Turn.TheVariants.{Enter}
 use Rattle.chain_moves.specs.declared.verdict.Verdict.TheVariants.{Refused, Plain as Quiet, Reviving}
 use Rattle.chain_core.proofs.OneStep.{masked}
 use Rattle.chain_core.proofs.Standing.{goes_at}

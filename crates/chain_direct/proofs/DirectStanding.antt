@@ -9,7 +9,7 @@ use Rattle.chain_moves.specs.Machine.{When, Before, Breaks, Ends, Machine}
 use Rattle.chain_moves.specs.Run.{Made, Over, run_to, Leads}
 use Rattle.chain_moves.specs.Cost.{cost, is_halfway}
 use Rattle.chain_core.specs.End.{steps_before, steps_needed, end_at, services_within}
-use Rattle.chain_core.specs.ChainRun.{chained_at, read_to}
+use Rattle.chain_core.specs.ChainRun.{is_body, chained_at, read_to}
 use Rattle.chain_moves.specs.Watched.{watched_of}
 use Rattle.chain_moves.specs.Beside.{Rest, board_of}
 use Rattle.chain_moves.specs.Related.{Related}
@@ -23,7 +23,8 @@ use Rattle.chain_core.specs.declared.round.Round.{Round}
 use Rattle.chain_core.specs.declared.round.Round.TheVariants.{Made as RoundMade, Failed, Ended, Spent}
 use Rattle.chain_core.proofs.Ends.{needed_more}
 use Rattle.chain_core.proofs.Bounded.{Late, made_before_end, done_end, broken_end, spent_end, services_are, late_last, broke_last, over_last}
-use Rattle.chain_core.proofs.Standing.{goes_to}
+use Rattle.hart_board.specs.Steps.{GoesOnBefore}
+use Rattle.chain_core.proofs.Standing.{goes_to, goes_before}
 use Rattle.chain_direct.specs.Kind.{Kind}
 use Rattle.chain_direct.specs.Directed.{Direct, Listed, Directed}
 use Rattle.chain_direct.specs.DirectMoves.{direct_move, direct_machine, direct_start}
@@ -57,14 +58,16 @@ module _ (m : Meanings) (es : List Event) (from : ℕ) (d : Dispatcher) (bound :
     pub count : (chained_at m es b n).count ≡ state.chained.bodies
     pub events : AreEventsFrom state.chained.outside.clic.shape.inputs from es
     pub read : read_to m es b n ≡ record { depth = length state.chained.live; services = state.chained.services }
+    pub goes : GoesOnBefore m is_body es b n
     pub listed : begun_to m es b n ≡ state.services
     pub counted : w.begun + length state.chained.services ≡ length state.services
     pub progress : p ≡ progress_at m es b n
     pub watch : w.chained ≡ watched_of state.chained
 
-  -- the machine's run ends so, and the board has made so many steps
+  -- the machine's run ends so, and the board has made so many steps, before each of which its run goes on
   pub record DirectFinal (end : ChainEnd) (steps : ℕ) (p : Progress) : Type 0 where
     pub ends : end_at machine d bound start ≡ record { end = end; steps = steps }
+    pub goes : GoesOnBefore m is_body es b steps
     pub progress : p ≡ progress_at m es b steps
     pub services : begun_to m es b steps ≡ services_within machine d bound start
 
@@ -101,27 +104,30 @@ module _ (m : Meanings) (es : List Event) (from : ℕ) (d : Dispatcher) (bound :
 
   -- ---- ends, by the moves that were made and the one that is due
 
-  pub final_broken : (made : List (Made Kind)) (t : Directed) (when : When) (kind : Broken) (k steps : ℕ) (p : Progress) → Leads machine made start t → direct_move m es t ≡ Breaks when kind k → steps_needed when (cost machine d made) ≤ bound → steps_before when (cost machine d made) ≡ steps → p.bodies ≡ k → p ≡ progress_at m es b steps → begun_to m es b steps ≡ t.services
+  pub final_broken : (made : List (Made Kind)) (t : Directed) (when : When) (kind : Broken) (k steps : ℕ) (p : Progress) → Leads machine made start t → direct_move m es t ≡ Breaks when kind k → steps_needed when (cost machine d made) ≤ bound → steps_before when (cost machine d made) ≡ steps → p.bodies ≡ k → p ≡ progress_at m es b steps → begun_to m es b steps ≡ t.services → GoesOnBefore m is_body es b steps
       → DirectFinal (BrokenOff kind p.bodies) steps p
-  final_broken made t when kind k steps p leads breaks within steps_are bodies progress services =
+  final_broken made t when kind k steps p leads breaks within steps_are bodies progress services going =
       record {
         ends = broken_end machine d start bound made t when kind k leads breaks within ∙ ap₂ (λ k steps. record { end = BrokenOff kind k; steps = steps }) (sym bodies) steps_are;
+        goes = going;
         progress = progress;
         services = services ∙ sym (services_are machine d start bound made t leads (omega (arith, within, needed_more machine d when (cost machine d made))) (broke_last machine d start bound made (direct_move m es t) when kind k breaks));
       }
 
-  pub final_spent : (made : List (Made Kind)) (t : Directed) (p : Progress) → Leads machine made start t → Late machine d start bound made (direct_move m es t) → cost machine d made ≤ bound → p ≡ progress_at m es b bound → begun_to m es b bound ≡ t.services → DirectFinal BudgetSpent bound p
-  final_spent made t p leads late within progress services =
+  pub final_spent : (made : List (Made Kind)) (t : Directed) (p : Progress) → Leads machine made start t → Late machine d start bound made (direct_move m es t) → cost machine d made ≤ bound → p ≡ progress_at m es b bound → begun_to m es b bound ≡ t.services → GoesOnBefore m is_body es b bound → DirectFinal BudgetSpent bound p
+  final_spent made t p leads late within progress services going =
       record {
         ends = spent_end machine d start bound made t leads late;
+        goes = going;
         progress = progress;
         services = services ∙ sym (services_are machine d start bound made t leads within (late_last machine d start bound made (direct_move m es t) late));
       }
 
-  pub final_over : (made : List (Made Kind)) (t : Directed) (n : ℕ) (p : Progress) (w : DirectWatched) → Leads machine made start t → direct_move m es t ≡ Ends → cost machine d made ≡ n → n ≤ bound → p.bodies ≡ t.chained.bodies → p.services + w.begun ≡ length t.services → p ≡ progress_at m es b n → begun_to m es b n ≡ t.services
+  pub final_over : (made : List (Made Kind)) (t : Directed) (n : ℕ) (p : Progress) (w : DirectWatched) → Leads machine made start t → direct_move m es t ≡ Ends → cost machine d made ≡ n → n ≤ bound → p.bodies ≡ t.chained.bodies → p.services + w.begun ≡ length t.services → p ≡ progress_at m es b n → begun_to m es b n ≡ t.services → GoesOnBefore m is_body es b n
       → DirectFinal (Done n p.bodies (p.services + w.begun)) n p
-  final_over made t n p w leads ends c within bodies many progress services =
+  final_over made t n p w leads ends c within bodies many progress services going =
       record {
+        goes = going;
         ends = done_end machine d start bound made t leads ends (omega (arith, c, within))
             ∙ (ap (λ k. record { end = Done k t.chained.bodies (length t.services); steps = k }) c
             ∙ ap₂ (λ i j. record { end = Done n i j; steps = n }) (sym bodies) (sym many));
@@ -139,11 +145,11 @@ module _ (m : Meanings) (es : List Event) (from : ℕ) (d : Dispatcher) (bound :
     refused_now kind e =
         let none : n + 0 ≡ n = omega arith in
         let c = st.costs in
-        final_broken st.made st.state Before kind st.state.chained.bodies (n + 0) p st.leads e (omega (arith, c, st.within)) (c ∙ sym none) bodies_are (st.progress ∙ ap (progress_at m es b) (sym none)) (ap (begun_to m es b) none ∙ st.listed)
+        final_broken st.made st.state Before kind st.state.chained.bodies (n + 0) p st.leads e (omega (arith, c, st.within)) (c ∙ sym none) bodies_are (st.progress ∙ ap (progress_at m es b) (sym none)) (ap (begun_to m es b) none ∙ st.listed) (goes_before m es b (n + 0) n (omega arith) st.goes)
 
     -- no step is left for what is due
     pub spent_short : Late machine d start bound st.made (direct_move m es st.state) → bound - n < 1 → DirectFinal BudgetSpent bound (goes m es (bound - n) p)
     spent_short late short =
         let here : bound ≡ n = omega (arith, short, st.within) in
         let c = st.costs in
-        final_spent st.made st.state (goes m es (bound - n) p) st.leads late (omega (arith, c, st.within)) (ap (goes m es (bound - n)) st.progress ∙ goes_to m es b bound n st.within) (ap (begun_to m es b) here ∙ st.listed)
+        final_spent st.made st.state (goes m es (bound - n) p) st.leads late (omega (arith, c, st.within)) (ap (goes m es (bound - n)) st.progress ∙ goes_to m es b bound n st.within) (ap (begun_to m es b) here ∙ st.listed) (goes_before m es b bound n (omega (arith, here)) st.goes)

@@ -23,3 +23,4 @@ pub mod DirectLive
 pub mod DirectRoundMeans
 pub mod DirectLoop
 pub mod DirectEnds
+mod OpenTests

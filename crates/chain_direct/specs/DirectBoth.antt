@@ -6,16 +6,16 @@ use Rattle.hart_board.specs.declared.event.Event.{Event}
 use Rattle.chain_moves.specs.Machine.{Ends}
 use Rattle.chain_moves.specs.Run.{Made, Leads}
 use Rattle.chain_core.specs.Counts.{counts}
-use Rattle.chain_core.specs.End.{services_within}
-use Rattle.chain_core.specs.Chain.{AgreesWith}
 use Rattle.chain_core.specs.Both.{SameBoards}
 use Rattle.chain_moves.specs.declared.dispatcher.Dispatcher.TheVariants.{Looping, Returning}
 use Rattle.chain_direct.specs.Kind.{Kind}
 use Rattle.chain_direct.specs.Directed.{Directed}
 use Rattle.chain_direct.specs.DirectCounts.{as_moves}
 use Rattle.chain_direct.specs.DirectMoves.{direct_machine, direct_move, direct_start}
+use Rattle.chain_direct.specs.DirectText.{direct_end, direct_board}
+use Rattle.chain_direct.specs.DirectChain.{begun_to}
 
--- both chains, from boards that differ in the slot alone, made the same moves and come to one state, and the returning one is 23 steps longer for each Enter straight after a Leave; boards that agree with that state are the same but for dispatch code, dead bytes, and what the last trap saved
+-- both chains made the same moves and came to one state, and the returning one is 23 steps longer for each Enter straight after a Leave; the services read off both boards' runs are that state's, and both boards are the same but for dispatch code, dead bytes, and what the last trap saved
 pub record BothDirectAgree (m : Meanings) (es : List Event) (b c : State) (one other : ℕ) (steps more bodies bodies' services services' : ℕ) : Type 0 where
   pub made : List (Made Kind)
   pub state : Directed
@@ -24,6 +24,6 @@ pub record BothDirectAgree (m : Meanings) (es : List Event) (b c : State) (one o
   pub steps_are : more ≡ steps + 23 * (counts (as_moves made)).pairs
   pub bodies_are : bodies ≡ bodies'
   pub services_are : services ≡ services'
-  pub listed : services_within (direct_machine m es) Looping one (direct_start m es b) ≡ state.services
-  pub other_listed : services_within (direct_machine m es) Returning other (direct_start m es c) ≡ state.services
-  pub boards : (x y : State) → AgreesWith x state.chained → AgreesWith y state.chained → SameBoards (λ j. slice_index_or state.chained.dead j false ≡ false) x y
+  pub listed : begun_to m es b (direct_end m es Looping one b).steps ≡ state.services
+  pub other_listed : begun_to m es c (direct_end m es Returning other c).steps ≡ state.services
+  pub boards : SameBoards (λ j. slice_index_or state.chained.dead j false ≡ false) (direct_board m es Looping one b) (direct_board m es Returning other c)

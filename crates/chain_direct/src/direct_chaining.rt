@@ -1,6 +1,8 @@
 // A chain with direct services to its end.
 ghost use Rattle.std.specs.Prelude.{◌≡◌, ◌+◌, ◌<◌, ◌^◌, true, is_ok, IfOk, IfErr, IsTrue};
 ghost use Rattle.board_outside.specs.Sink.{Writes};
+ghost use Rattle.hart_board.specs.Steps.{GoesOnBefore};
+ghost use Rattle.chain_core.specs.ChainRun.{is_body};
 ghost use Rattle.chain_moves.specs.Words.{HasDispatcher};
 ghost use Rattle.chain_core.specs.End.{services_within};
 ghost use Rattle.chain_core.specs.Chain.{is_whole};
@@ -124,6 +126,8 @@ pub fn chain_direct<D: Device, W: Sink>(
     ensures stopped { result ≡ SinkFailed → StopsDirect D.means events.now.list dispatcher trace bound board.old board.new (W.told out.old) (W.told out.new) }
     // The services read off the board's run are those of the machine within the bound.
     ensures services { begun_to D.means events.now.list board.old (direct_end D.means events.now.list dispatcher bound board.old).steps ≡ services_within (direct_machine D.means events.now.list) dispatcher bound (direct_start D.means events.now.list board.old) }
+    // Until then the board's run goes on: none of those steps finds that it has halted, or finds no vector.
+    ensures goes { GoesOnBefore D.means is_body events.now.list board.old (direct_end D.means events.now.list dispatcher bound board.old).steps }
     // Where the chain is done, the board agrees with the machine's last state.
     ensures state { AgreesWhereOver (direct_end D.means events.now.list dispatcher bound board.old).end (direct_board D.means events.now.list dispatcher bound board.old) (direct_run D.means events.now.list bound board.old) }
     ensures kept { board.new.kept ≡ board.old.kept }

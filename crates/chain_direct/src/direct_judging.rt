@@ -1,9 +1,10 @@
 // The tests of a direct service: as it begins, of its instructions, and of its registers at its end.
 ghost use Rattle.std.specs.Prelude.{◌≡◌, ◌<◌, ◌==◌, ℕ};
 ghost use Rattle.hart_words.specs.Registers.{register};
-ghost use Rattle.hart_memory.specs.Fetch.{HasLength};
+ghost use Rattle.hart_memory.specs.Fetch.{fetched};
 ghost use Rattle.hart_exec.specs.Effect.{effect as effect_of};
 ghost use Rattle.hart_board.specs.State.{State};
+ghost use Rattle.hart_board.specs.Prepared.{IsPrepared};
 ghost use Rattle.chain_moves.specs.Tests.{first_broken};
 ghost use Rattle.chain_moves.specs.Enter.{table_address};
 ghost use Rattle.chain_moves.specs.Judge.{HasBytes};
@@ -14,16 +15,16 @@ ghost use Rattle.chain_direct.specs.DirectRounds.{hard_due};
 
 use crate::direct_verdict::DirectVerdict;
 use crate::direct_watch::DirectWatch;
+use chain_moves::due::is_open;
 use chain_moves::{Broken, Verdict, Watch, is_long, table_address};
 use clic_select::Choice;
 use clic_trap::due;
 use device_model::Device;
-use hart_board::{Board, FETCH_FAULT, ILLEGAL_INSTRUCTION};
-use hart_exec::{Effect, execute};
+use hart_board::{Board, FETCH_FAULT, ILLEGAL_INSTRUCTION, Prepared};
+use hart_exec::{Effect, instruction_of};
 use hart_memory::{Fetched, fetch, place_of};
 use hart_words::Regs;
 use rv_encoding::Ins;
-use rvc_encoding::decode_bits;
 
 /// The tests of a direct service that begins, by the address of its word in the table.
 #[tactic(auto, unfolding(chain_moves::specs::Tests::first_broken))]
@@ -79,10 +80,23 @@ fn judge_instruction(watch: &Watch, ins: &Ins, effect: Effect) -> DirectVerdict
     }
 }
 
-// The tests of the instruction that was fetched.
-fn judge_fetched<D: Device>(board: &Board<D>, watch: &Watch, found: Fetched) -> DirectVerdict
-    requires { HasLength found }
-    ensures { result ≡ judge_direct_fetched board.now watch.now found }
+// The tests of the instruction at pc.
+fn judge_prepared<D: Device>(board: &Board<D>, watch: &Watch, prepared: &Prepared) -> DirectVerdict
+    requires { IsPrepared board.now prepared.now }
+    ensures { result ≡ judge_direct_fetched board.now watch.now (fetched board.now.memory board.now.pc) }
+{
+    let _ = board;
+    match instruction_of(&prepared.operation) {
+        Some(ins) => judge_instruction(watch, &ins, prepared.effect),
+        None => unreachable!(),
+    }
+}
+
+// The tests of the instruction that was fetched. The state is the same.
+fn judge_fetched<D: Device>(board: &mut Board<D>, watch: &Watch, found: Fetched) -> DirectVerdict
+    requires { found ≡ fetched board.old.memory board.old.pc }
+    ensures verdict { result ≡ judge_direct_fetched board.old watch.now found }
+    ensures same { board.new ≡ board.old }
 {
     let (bits, length) = match found {
         Fetched::Bits { bits, length } => (bits, length),
@@ -90,19 +104,17 @@ fn judge_fetched<D: Device>(board: &Board<D>, watch: &Watch, found: Fetched) -> 
             return DirectVerdict::Goes(Verdict::Refused(Broken::Exception(FETCH_FAULT)));
         }
     };
-    match decode_bits(bits, length) {
-        Some(ins) => {
-            let effect = execute(&ins, length, board.regs(), board.pc());
-            judge_instruction(watch, &ins, effect)
-        }
+    match board.prepare(bits, length) {
+        Some(prepared) => judge_prepared(board, watch, &prepared),
         None => DirectVerdict::Goes(Verdict::Refused(Broken::Exception(ILLEGAL_INSTRUCTION))),
     }
 }
 
-/// The tests of a direct service's instruction that are made before its step.
+// The tests of an instruction, whatever place it has. The state is the same.
 #[tactic(auto, unfolding(crate::specs::DirectJudge::judge_direct_body))]
-pub fn judge_direct_body<D: Device>(board: &Board<D>, watch: &Watch) -> DirectVerdict
-    ensures { result ≡ judge_direct_body board.now watch.now }
+fn judge_anywhere<D: Device>(board: &mut Board<D>, watch: &Watch) -> DirectVerdict
+    ensures verdict { result ≡ judge_direct_body board.old watch.now }
+    ensures same { board.new ≡ board.old }
 {
     let pc = board.pc();
     if let Some(kind) = watch.first_test(pc) {
@@ -112,6 +124,21 @@ pub fn judge_direct_body<D: Device>(board: &Board<D>, watch: &Watch) -> DirectVe
     match watch.second_test(is_long(found, pc), pc) {
         Some(kind) => DirectVerdict::Goes(Verdict::Refused(kind)),
         None => judge_fetched(board, watch, found),
+    }
+}
+
+/// The tests of a direct service's instruction that are made before its step. The state is the same.
+#[tactic(auto, using(crate::proofs::OpenTests::judged_open))]
+pub fn judge_direct_body<D: Device>(board: &mut Board<D>, watch: &Watch) -> DirectVerdict
+    ensures verdict { result ≡ judge_direct_body board.old watch.now }
+    ensures same { board.new ≡ board.old }
+{
+    if !is_open(board.pc()) {
+        return judge_anywhere(board, watch);
+    }
+    match board.known() {
+        Some(prepared) => judge_prepared(board, watch, &prepared),
+        None => judge_anywhere(board, watch),
     }
 }
 

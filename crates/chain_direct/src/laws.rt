@@ -89,13 +89,20 @@ pub fn soft_chains_stay<D: Device>()
 {}
 
 /// Where a chain is done under either dispatcher, on boards that differ in the slot's bytes alone and
-/// with one list of events, the moves, the services, the bodies and the machine's state at the end are
-/// the same, and boards that agree with that state are the same but for dispatch code, dead bytes and
-/// what the last trap saved. Going back costs 23 steps more for each Enter straight after a Leave.
+/// with one list of events, the moves, the services that are read off both boards' runs, the bodies and the
+/// machine's state at the end are the same, and both boards are the same but for dispatch code, dead bytes
+/// and what the last trap saved. Going back costs 23 steps more for each Enter straight after a Leave.
 pub fn both_dispatchers_agree<D: Device>()
-    ensures { (es : List Event) (one other : ℕ) (b : State) (bytes : List ℕ) (steps bodies services more also listed : ℕ) → slot_end ≤ length b.memory.rom → length bytes ≡ slot_end - base
+    ensures { (es : List Event) (one other : ℕ) (b : State) (bytes : List ℕ) (steps bodies services more also listed : ℕ) → length bytes ≡ slot_end - base → Starts D.means es Looping b → Starts D.means es Returning (with_slot_bytes bytes b)
         → (direct_end D.means es Looping one b).end ≡ Done steps bodies services → (direct_end D.means es Returning other (with_slot_bytes bytes b)).end ≡ Done more also listed
         → BothDirectAgree D.means es b (with_slot_bytes bytes b) one other steps more bodies also services listed }
+{}
+
+/// A chain with direct services that is broken under both dispatchers, on boards that differ in the
+/// slot's bytes alone and with one list of events, is broken by the same test, after as many bodies.
+pub fn a_chain_is_broken_alike<D: Device>()
+    ensures { (es : List Event) (d e : Dispatcher) (one other : ℕ) (b : State) (bytes : List ℕ) (kind also : Broken) (bodies more : ℕ) → slot_end ≤ length b.memory.rom → length bytes ≡ slot_end - base
+        → (direct_end D.means es d one b).end ≡ BrokenOff kind bodies → (direct_end D.means es e other (with_slot_bytes bytes b)).end ≡ BrokenOff also more → (kind ≡ also) × (bodies ≡ more) }
 {}
 
 /// Where an Enter of a hardware-vectored top would be due and the table's word may be used, the board

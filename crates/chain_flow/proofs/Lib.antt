@@ -11,3 +11,4 @@ pub mod Targets
 pub mod Surveys
 pub mod Standing
 pub mod Depths
+pub mod Goings

@@ -4,3 +4,4 @@ pub mod Rules
 pub mod Look
 pub mod Walk
 pub mod Survey
+pub mod Onward

@@ -29,3 +29,10 @@ look_of (Branches far near) f = Passed f (far ∷ near ∷ [])
 -- no rule holds, and it goes on at these
 abbrev pub GoesOnAt : Look → List ℕ → Type 0
 GoesOnAt look ts = (f : Flow) → look_of look f ≡ Passed f ts
+
+-- the same where an instruction may be missing
+abbrev pub onward_of : Look → Option (List ℕ)
+onward_of (Refuses why) = None
+onward_of Returns = Some []
+onward_of (GoesTo target) = Some (target ∷ [])
+onward_of (Branches far near) = Some (far ∷ near ∷ [])

@@ -17,8 +17,8 @@ use hart_words::WantOfMemory;
 use rv_encoding::Ins;
 use rvc_encoding::decode_bits;
 
-// Where an instruction of that length at an address goes on.
-fn next(at: u32, length: u32, ins: &Ins) -> Look
+/// Where an instruction of that length at an address goes on.
+pub fn next(at: u32, length: u32, ins: &Ins) -> Look
     ensures { GoesOnAt result (targets at length ins.now) }
 {
     match *ins {

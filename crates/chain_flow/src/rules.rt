@@ -13,8 +13,8 @@ use crate::transfer::{address, load_width, store_width};
 use crate::value::{Value, depth_of};
 use rv_encoding::Ins;
 
-// A system instruction that isn't WFI.
-fn is_other_system(ins: &Ins) -> bool
+/// A system instruction that isn't WFI.
+pub fn is_other_system(ins: &Ins) -> bool
     ensures { result ≡ is_other_system_of ins.now }
 {
     match *ins {
@@ -177,8 +177,8 @@ pub fn is_bad_pointer(pointer: Value) -> bool
     }
 }
 
-// The registers that a handler may change.
-fn is_free(r: u8) -> bool
+/// The registers that a handler may change.
+pub fn is_free(r: u8) -> bool
     ensures { result ≡ is_free_of r }
 {
     r == 0 || (r == 1 || (r == 10 || r == 11))

@@ -8,6 +8,7 @@ use Rattle.chain_moves.specs.Bytes.{some_byte}
 use Rattle.chain_flow.specs.Walk.{verdict}
 use Rattle.chain_lint.specs.Bound.{Use, bound}
 use Rattle.chain_flow.specs.declared.region.Region.{Region}
+use Rattle.chain_lint.specs.declared.accepted.Accepted.{Accepted}
 use Rattle.chain_lint.specs.declared.pair.Pair.{Pair}
 use Rattle.chain_flow.specs.declared.verdict.Verdict.{Verdict}
 use Rattle.chain_flow.specs.declared.verdict.Verdict.TheVariants.{Yes, No}
@@ -42,6 +43,10 @@ table_bound code region table [] us = Bound (bound us)
 table_bound code region table (p ∷ ps) us =
     by_word (is_bad_word (word_place table p)) (word_place table p)
     (by_verdict (λ vs. table_bound code region table ps vs) p.level us (verdict code (even (number_at code (word_place table p) 4)) region))
+
+-- the handler at this address is accepted with these uses, which are few
+abbrev pub WasAccepted : List ℕ → Region → Accepted → Type 0
+WasAccepted code region h = (verdict code h.at region ≡ Yes h.uses) × (h.uses ≤ 4096)
 
 -- the level is one that a service can have
 abbrev pub IsPair : Pair → Type 0

@@ -5,12 +5,13 @@ ghost use Rattle.hart_memory.specs.declared.address_map.TheConstants.{RAM_BASE, 
 ghost use Rattle.chain_lint.specs.Code.{image_rom};
 ghost use Rattle.chain_lint.specs.Tables.{IsPair, IsWordAt, is_bad_word, table_bound};
 
+use crate::accepted::judge;
 use crate::bound::stack_bound;
 use crate::code::memory_of;
 use crate::pair::Pair;
 use crate::table_bound::TableBound;
 use crate::uses::Use;
-use chain_flow::{Region, Verdict, lint_code, meets_slot};
+use chain_flow::{Region, Verdict, meets_slot};
 use hart_memory::laws::banks_are_whole;
 use hart_memory::{BANK_LEN, Banks, Image};
 use hart_words::{WantOfMemory, even};
@@ -23,8 +24,8 @@ fn is_bad(at: u32) -> bool
     u64::from(at) + 4 > u64::from(BANK_LEN) || meets_slot(at, 4)
 }
 
-// The word at an address of the code. `None`: it isn't wholly in ROM, or has a byte in the slot.
-fn word_at(code: &Banks, at: u32) -> Option<u32>
+/// The word at an address of the code. `None`: it isn't wholly in ROM, or has a byte in the slot.
+pub fn word_at(code: &Banks, at: u32) -> Option<u32>
     ensures { IsWordAt code.now.present.rom at result }
 {
     if is_bad(at) {
@@ -47,13 +48,14 @@ fn bound_in(
     ensures { IfOk result (λ answer. answer ≡ table_bound code.now.present.rom region.now table pairs.now []) }
 {
     let mut list = Vec::new(alloc);
+    let mut accepted = Vec::new(alloc);
     for i in 0..pairs.len() {
         let Pair { input, level } = pairs[i];
         let at = table + 4 * u32::from(input);
         let Some(word) = word_at(code, at) else {
             return Ok(TableBound::BadTable(at));
         };
-        match lint_code(alloc, code, even(word), region)? {
+        match judge(alloc, code, region, even(word), &mut accepted)? {
             Verdict::Yes { uses } => list.push(Use { level, uses })?,
             Verdict::No { why, at } => return Ok(TableBound::Refused { why, at }),
         }

@@ -1,5 +1,5 @@
 -- Bodies in the open, and which move is due.
-use Rattle.std.proofs.Common.{◌≡◌, ℕ, ◌+◌, ◌<◌, ◌≤◌, ◌⊎◌, inl, inr, Bool, true, false, List, [], ◌∷◌, length, nat_le, Option, Some, None, refl, sym, ap, ap₂, ◌∙◌, arith}
+use Rattle.std.proofs.Common.{◌≡◌, ℕ, ◌+◌, ◌<◌, ◌≤◌, ◌⊎◌, inl, inr, Bool, true, false, List, [], ◌∷◌, length, nat_le, Option, Some, None, refl, sym, ap, ap₂, ◌∙◌, subst, arith}
 use Rattle.std.specs.Prelude.{◌&&◌, ◌||◌, ◌==◌, not}
 use Rattle.std.proofs.lemmas.Bool.{true≢false, false≢true, leb-true}
 use Rattle.std.proofs.lemmas.Bool.Decides.{nat_tests}
@@ -11,14 +11,27 @@ use Rattle.clic_select.specs.Top.{top}
 use Rattle.clic_select.specs.declared.choice.Choice.{Choice}
 use Rattle.clic_trap.specs.Due.{due}
 use Rattle.hart_board.specs.State.{State}
+use Rattle.hart_board.specs.Prepared.{IsPrepared}
+use Rattle.hart_board.specs.declared.prepared.Prepared.{Prepared}
+use Rattle.rv_encoding.specs.System.{is_system}
+use Rattle.rv_encoding.specs.declared.instruction.Ins.{Ins}
+use Rattle.rv_encoding.specs.declared.instruction.Ins.TheVariants.{Lui, Auipc, Jal, Jalr, Branch, Load as LoadIns, Store as StoreIns, Imm, Reg, Fence, Ecall, Ebreak, Mret, Wfi, Csr}
+use Rattle.hart_exec.specs.Access.{IsWidth}
+use Rattle.hart_exec.specs.Bounds.{HasWidth}
+use Rattle.hart_exec.specs.Effect.{effect}
+use Rattle.hart_exec.specs.declared.effect.Effect.{Effect}
+use Rattle.hart_exec.specs.declared.effect.Effect.TheVariants.{Go, Load, Store, System}
+use Rattle.hart_exec.proofs.Effects.{effect_has_width, effect_is_system}
+use Rattle.chain_moves.specs.Convention.{is_permitted}
+use Rattle.chain_moves.specs.declared.broken.Broken.TheVariants.{CsrTouched}
 use Rattle.chain_moves.specs.Slot.{in_slot, back}
 use Rattle.chain_moves.specs.Servicing.{is_foreground, innermost_level}
 use Rattle.chain_moves.specs.Bytes.{some_byte, is_hidden}
 use Rattle.chain_moves.specs.Body.{is_long_at}
-use Rattle.chain_moves.specs.Tests.{first_broken, half_tests, first_tests, second_tests}
+use Rattle.chain_moves.specs.Tests.{first_broken, half_tests, first_tests, second_tests, instruction_tests}
 use Rattle.chain_moves.specs.Cost.{is_fused}
-use Rattle.chain_moves.specs.Judge.{refused_or, judge_fetched, judge_body, claims_above, judge_fused, judge_leave, judge_due, judge_turn}
-use Rattle.chain_moves.specs.Ready.{is_open, is_body_due}
+use Rattle.chain_moves.specs.Judge.{refused_or, judge_effect, judge_instruction, HasBytes, judge_fetched, judge_body, claims_above, judge_fused, judge_leave, judge_due, judge_turn}
+use Rattle.chain_moves.specs.Ready.{verdict_by, is_open, is_body_due}
 use Rattle.chain_moves.specs.Watched.{Watched, outside_of}
 use Rattle.chain_moves.specs.declared.broken.Broken.{Broken}
 use Rattle.chain_moves.specs.declared.dispatcher.Dispatcher.{Dispatcher}
@@ -98,15 +111,83 @@ second_untested true dead pc h =
     let next : word (pc + 2) ≡ pc + 2 = omega (arith, h.low) in
     half_untested dead (word (pc + 2)) (within pc 4 (word (pc + 2)) 2 h (omega (arith, next)) (omega (arith, next)))
 
+-- no test of the half-words holds
+pub first_open : (dead : List Bool) (pc : ℕ) → is_open pc ≡ true → first_broken (first_tests dead pc) ≡ None
+first_open dead pc h = first_untested dead pc (clear pc h)
+
+pub second_open : (long : Bool) (dead : List Bool) (pc : ℕ) → is_open pc ≡ true → first_broken (second_tests long dead pc) ≡ None
+second_open long dead pc h = second_untested long dead pc (clear pc h)
+
 untested : (b : State) (w : Watched) → is_open b.pc ≡ true → judge_body b w ≡ judge_fetched b w (fetched b.memory b.pc)
 unfolding judge_body
 untested b w h =
     let second = refused_or (first_broken (second_tests (is_long_at b.memory b.pc) w.dead b.pc)) (judge_fetched b w (fetched b.memory b.pc)) in
-    ap (λ t. refused_or t second) (first_untested w.dead b.pc (clear b.pc h))
-    ∙ ap (λ t. refused_or t (judge_fetched b w (fetched b.memory b.pc))) (second_untested (is_long_at b.memory b.pc) w.dead b.pc (clear b.pc h))
+    ap (λ t. refused_or t second) (first_open w.dead b.pc h)
+    ∙ ap (λ t. refused_or t (judge_fetched b w (fetched b.memory b.pc))) (second_open (is_long_at b.memory b.pc) w.dead b.pc h)
 
 pub judged_open : (b : State) (w : Watched) (v : Verdict) → is_open b.pc ≡ true → v ≡ judge_fetched b w (fetched b.memory b.pc) → v ≡ judge_body b w
 judged_open b w v h e = e ∙ sym (untested b w h)
+
+-- ---- an instruction that is known
+
+permitted : (f : Bool) (i : Ins) → is_system i ≡ false → is_permitted f i ≡ true
+permitted f (Lui rd imm) e = refl
+permitted f (Auipc rd imm) e = refl
+permitted f (Jal rd offset) e = refl
+permitted f (Jalr rd rs1 imm) e = refl
+permitted f (Branch op rs1 rs2 offset) e = refl
+permitted f (LoadIns op rd rs1 imm) e = refl
+permitted f (StoreIns op rs1 rs2 imm) e = refl
+permitted f (Imm op rd rs1 imm) e = refl
+permitted f (Reg op rd rs1 rs2) e = refl
+permitted f (Fence pred succ) e = refl
+permitted f Ecall e = refl
+permitted f Ebreak e = refl
+permitted f Wfi e = refl
+permitted f Mret e = absurd (true≢false e)
+permitted f (Csr op rd source csr) e = absurd (true≢false e)
+
+passed : (b : Bool) (x : Broken) → b ≡ true → first_broken ((not b, x) ∷ []) ≡ None
+unfolding first_broken
+passed true x e = refl
+passed false x e = absurd (false≢true e)
+
+not_true : (b : Bool) → (b ≡ true → ⊥) → b ≡ false
+not_true true n = absurd (n refl)
+not_true false n = refl
+
+module _ (b : State) (w : Watched) (p : Prepared) (h : IsPrepared b p) where
+  by_tests : (t : Option Broken) → first_broken (instruction_tests w.live h.ins) ≡ t → refused_or t (judge_effect w p.effect) ≡ judge_fetched b w (fetched b.memory b.pc)
+  by_tests t e =
+      ap (λ x. refused_or t (judge_effect w x)) h.is_effect
+      ∙ sym (ap (λ x. refused_or x (judge_effect w (effect h.ins p.encoding.length b.registers b.pc))) e)
+      ∙ sym (ap (judge_instruction b w p.encoding.length) h.is_spelled)
+      ∙ ap (judge_fetched b w) h.is_fetched
+
+  -- it is left to the system
+  pub judged_left : (t : Option Broken) → p.effect ≡ System → t ≡ first_broken (instruction_tests w.live h.ins) → refused_or t (verdict_by p.effect) ≡ judge_fetched b w (fetched b.memory b.pc)
+  judged_left t is e = ap (refused_or t) (ap verdict_by is ∙ sym (ap (judge_effect w) is)) ∙ by_tests t (sym e)
+
+  -- it isn't
+  pub judged_plain : (p.effect ≡ System → ⊥) → judge_effect w p.effect ≡ judge_fetched b w (fetched b.memory b.pc)
+  judged_plain n =
+      let plain = not_true (is_system h.ins) (λ (e : is_system h.ins ≡ true). n (h.is_effect ∙ (effect_is_system h.ins p.encoding.length b.registers b.pc).1 e)) in
+      by_tests None (passed (is_permitted (is_foreground w.live) h.ins) CsrTouched (permitted (is_foreground w.live) h.ins plain))
+
+bytes_by : (e : Effect) → HasWidth e → HasBytes e
+bytes_by (Go rd value target) h = tt
+bytes_by (Load rd at width signed) h = width_some width h
+  where
+    width_some : (n : ℕ) → IsWidth n → 0 < n
+    width_some n l = omega (arith, l)
+bytes_by (Store at width value) h = width_some width h
+  where
+    width_some : (n : ℕ) → IsWidth n → 0 < n
+    width_some n l = omega (arith, l)
+bytes_by System h = tt
+
+pub prepared_bytes : (b : State) (p : Prepared) → IsPrepared b p → HasBytes p.effect
+prepared_bytes b p h = bytes_by p.effect (subst HasWidth (sym h.is_effect) (effect_has_width h.ins p.encoding.length b.registers b.pc))
 
 -- ---- which move is due
 

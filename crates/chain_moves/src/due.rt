@@ -8,8 +8,8 @@ ghost use Rattle.chain_moves.specs.Slot.{back};
 ghost use Rattle.chain_moves.specs.Servicing.{innermost_level};
 ghost use Rattle.chain_moves.specs.Body.{is_long_at};
 ghost use Rattle.chain_moves.specs.Cost.{is_fused};
-ghost use Rattle.chain_moves.specs.Judge.{judge_fetched, judge_body, claims_above, judge_fused, judge_leave, judge_turn};
-ghost use Rattle.chain_moves.specs.Ready.{verdict_of, is_open, is_body_due, turn_of};
+ghost use Rattle.chain_moves.specs.Judge.{refused_or, judge_fetched, judge_body, claims_above, judge_fused, judge_leave, judge_turn};
+ghost use Rattle.chain_moves.specs.Ready.{verdict_by, verdict_of, is_open, is_body_due, turn_of};
 ghost use Rattle.hart_board.specs.Prepared.{IsPrepared};
 ghost use Rattle.chain_moves.specs.Watched.{outside_of};
 ghost use Rattle.chain_moves.specs.declared.moves.Move.TheVariants.{Leave as LeaveMove};
@@ -23,6 +23,7 @@ use crate::watch::Watch;
 use clic_trap::due;
 use device_model::Device;
 use hart_board::{Board, FETCH_FAULT, ILLEGAL_INSTRUCTION, Prepared};
+use hart_exec::Effect;
 use hart_memory::{BANK_LEN, Fetched, fetch};
 
 // The stack pointer.
@@ -39,23 +40,40 @@ pub fn is_long(found: Fetched, pc: u32) -> bool
     }
 }
 
-// The tests of the instruction that was fetched.
+// The test of the instruction at pc that holds, if one does: whether it is permitted, or of its access.
 #[inline(always)]
-fn judge_fetched<D: Device>(
+fn instruction_test<D: Device>(
     board: &Board<D>,
+    watch: &Watch,
+    prepared: &Prepared,
+) -> Option<Broken>
+    requires { IsPrepared board.now prepared.now }
+    ensures { refused_or result (verdict_by prepared.now.effect) ≡ judge_fetched board.now watch.now (fetched board.now.memory board.now.pc) }
+{
+    let _ = board;
+    match prepared.effect {
+        Effect::System => watch.system_test(&prepared.operation),
+        _ => watch.access_test(prepared.effect),
+    }
+}
+
+// The tests of the instruction that was fetched.
+fn judge_fetched<D: Device>(
+    board: &mut Board<D>,
     watch: &Watch,
     found: Fetched,
 ) -> Result<Prepared, Broken>
-    requires { found ≡ fetched board.now.memory board.now.pc }
-    ensures verdict { verdict_of result ≡ judge_fetched board.now watch.now found }
-    ensures prepared { IfOk result (λ prepared. IsPrepared board.now prepared) }
+    requires { found ≡ fetched board.old.memory board.old.pc }
+    ensures verdict { verdict_of result ≡ judge_fetched board.old watch.now found }
+    ensures prepared { IfOk result (λ prepared. IsPrepared board.old prepared) }
+    ensures same { board.new ≡ board.old }
 {
     let (bits, length) = match found {
         Fetched::Bits { bits, length } => (bits, length),
         Fetched::Missing(_) => return Err(Broken::Exception(FETCH_FAULT)),
     };
     match board.prepare(bits, length) {
-        Some(prepared) => match watch.instruction_test(&prepared.ins, prepared.effect) {
+        Some(prepared) => match instruction_test(board, watch, &prepared) {
             Some(kind) => Err(kind),
             None => Ok(prepared),
         },
@@ -72,11 +90,13 @@ pub fn is_open(pc: u32) -> bool
     (pc >= SLOT_END && pc <= BANK_LEN - 4) || pc <= BASE - 4
 }
 
-/// The tests of a body that are made before its step, and its instruction where none of them holds.
+/// The tests of a body that are made before its step, and its instruction where none of them holds. The
+/// state is the same.
 #[tactic(auto, unfolding(crate::specs::Judge::judge_body))]
-pub fn judge_body<D: Device>(board: &Board<D>, watch: &Watch) -> Result<Prepared, Broken>
-    ensures verdict { verdict_of result ≡ judge_body board.now watch.now }
-    ensures prepared { IfOk result (λ prepared. IsPrepared board.now prepared) }
+pub fn judge_body<D: Device>(board: &mut Board<D>, watch: &Watch) -> Result<Prepared, Broken>
+    ensures verdict { verdict_of result ≡ judge_body board.old watch.now }
+    ensures prepared { IfOk result (λ prepared. IsPrepared board.old prepared) }
+    ensures same { board.new ≡ board.old }
 {
     let pc = board.pc();
     if let Some(kind) = watch.first_test(pc) {
@@ -89,15 +109,15 @@ pub fn judge_body<D: Device>(board: &Board<D>, watch: &Watch) -> Result<Prepared
     }
 }
 
-/// The same where the place is open.
+/// The test of a body that holds, if one does, where its place is open and its instruction is known.
 #[inline(always)]
 #[tactic(auto, using(crate::proofs::Opened::judged_open))]
-pub fn judge_open<D: Device>(board: &Board<D>, watch: &Watch) -> Result<Prepared, Broken>
-    requires { is_open board.now.pc ≡ true }
-    ensures verdict { verdict_of result ≡ judge_body board.now watch.now }
-    ensures prepared { IfOk result (λ prepared. IsPrepared board.now prepared) }
+pub fn open_test<D: Device>(board: &Board<D>, watch: &Watch, prepared: &Prepared) -> Option<Broken>
+    requires open { is_open board.now.pc ≡ true }
+    requires prepared { IsPrepared board.now prepared.now }
+    ensures { refused_or result (verdict_by prepared.now.effect) ≡ judge_body board.now watch.now }
 {
-    judge_fetched(board, watch, fetch(board.banks(), board.pc()))
+    instruction_test(board, watch, prepared)
 }
 
 // Whether a Leave goes on with the Enter that could be made at once.

@@ -1,6 +1,7 @@
 // A dispatcher in the slot of a board.
 ghost use Rattle.std.specs.Prelude.{◌≡◌, ◌-◌, ◌<◌, slice_index};
 ghost use Rattle.chain_moves.specs.Slot.{base, slot_end};
+ghost use Rattle.chain_moves.specs.Words.{HasDispatcher};
 ghost use Rattle.chain_moves.specs.Start.{slot_bytes, installed};
 
 use crate::dispatcher::{Dispatcher, slot_words};
@@ -21,7 +22,8 @@ fn slot_byte(d: Dispatcher, i: u32) -> u8
 
 /// Puts a dispatcher into the slot, and the end of RAM into mscratch.
 pub fn install<D: Device>(board: &mut Board<D>, d: Dispatcher)
-    ensures { board.new ≡ installed d board.old }
+    ensures board { board.new ≡ installed d board.old }
+    ensures has { HasDispatcher d board.new.memory.rom }
 {
     board.in_range();
     for i in 0..SLOT_END - BASE {

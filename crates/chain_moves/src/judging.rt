@@ -1,5 +1,7 @@
 // The tests of a body, made on what is kept beside the board.
-ghost use Rattle.std.specs.Prelude.{◌≡◌};
+ghost use Rattle.std.specs.Prelude.{◌≡◌, Some};
+ghost use Rattle.rv_encoding.specs.declared.instruction.Ins.{Ins};
+ghost use Rattle.hart_exec.specs.Operation.{instruction};
 ghost use Rattle.chain_moves.specs.Tests.{first_broken, half_tests, first_tests, second_tests, instruction_tests};
 ghost use Rattle.chain_moves.specs.Judge.{HasBytes, refused_or, judge_effect};
 ghost use Rattle.chain_moves.specs.Ready.{verdict_by};
@@ -10,9 +12,8 @@ use crate::slot::{BASE, SLOT_END};
 use crate::verdict::Verdict;
 use crate::watch::Watch;
 use hart_board::FETCH_FAULT;
-use hart_exec::Effect;
+use hart_exec::{Effect, Operation, instruction_of};
 use hart_memory::place_of;
-use rv_encoding::Ins;
 
 // What no test refuses, by what the instruction asks for.
 fn verdict_by(effect: Effect) -> Verdict
@@ -100,16 +101,32 @@ impl Watch {
         }
     }
 
-    /// The tests of an instruction that is spelled, and of what it asks for.
+    /// The test of an instruction that is left to the system. A place for the operation is made here, so
+    /// that the test of another makes none.
     #[inline(always)]
-    #[tactic(auto, unfolding(crate::specs::Tests::first_broken))]
-    pub(crate) fn instruction_test(&self, ins: &Ins, effect: Effect) -> Option<Broken>
-        requires { HasBytes effect }
-        ensures { refused_or result (verdict_by effect) ≡ refused_or (first_broken (instruction_tests self.now.live ins.now)) (judge_effect self.now effect) }
+    pub(crate) fn system_test(&self, operation: &Operation) -> Option<Broken>
+        ensures { (ins : Ins) → instruction operation.now ≡ Some ins → result ≡ first_broken (instruction_tests self.now.live ins) }
     {
-        if !is_permitted(self.is_foreground(), ins) {
-            return Some(Broken::CsrTouched);
+        let operation = *operation;
+        let told = self.convention_test(&operation);
+        told
+    }
+
+    // Whether the convention permits the instruction that an operation stands for.
+    #[inline(never)]
+    #[tactic(auto, unfolding(crate::specs::Tests::first_broken))]
+    fn convention_test(&self, operation: &Operation) -> Option<Broken>
+        ensures { (ins : Ins) → instruction operation.now ≡ Some ins → result ≡ first_broken (instruction_tests self.now.live ins) }
+    {
+        match instruction_of(operation) {
+            Some(ins) => {
+                if is_permitted(self.is_foreground(), &ins) {
+                    None
+                } else {
+                    Some(Broken::CsrTouched)
+                }
+            }
+            None => None,
         }
-        self.access_test(effect)
     }
 }

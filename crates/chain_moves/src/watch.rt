@@ -17,7 +17,6 @@ use crate::frames::{meets, without_last};
 use crate::kept::is_lost;
 use crate::mark::Mark;
 use crate::slot::FRAME_SIZE;
-use arrayvec::ArrayVec;
 use hart_exec::Effect;
 use hart_memory::{BANK_LEN, Place, RAM_BASE, place_of};
 use hart_report::DeadBytes;
@@ -31,21 +30,23 @@ pub const MAX_LIVE: usize = 255;
 /// The live services, and which bytes of RAM are dead. A watch is used for one chain.
 #[derive(Drop)]
 pub struct Watch {
-    // The outermost first.
-    marks: ArrayVec<Mark, MAX_LIVE>,
+    // The outermost first, with room for all of them.
+    marks: Vec<Mark>,
     dead: Vec<bool>,
 }
 
 impl Model for Watch {
-    ghost use Rattle.std.specs.Prelude.{◌≡◌, length, reverse};
+    ghost use Rattle.std.specs.Prelude.{◌≡◌, ◌≤◌, length, reverse, vec_len};
+    ghost use Rattle.std.specs.Vec.{vec_capacity};
     ghost use Rattle.hart_memory.specs.declared.address_map.TheConstants.{BANK_LEN};
     ghost use Rattle.chain_moves.specs.Watched.{Watched};
+    ghost use Rattle.chain_moves.specs.declared.watch.TheConstants.{MAX_LIVE};
 
     ghost Value = { Watched };
 
     ghost view = { λ w. record { live = reverse w.marks.items; dead = w.dead.items } };
 
-    ghost invariant = { λ w. length w.dead.items ≡ BANK_LEN };
+    ghost invariant = { λ w. (length w.dead.items ≡ BANK_LEN) × (vec_len w.marks ≤ MAX_LIVE) × (MAX_LIVE ≤ vec_capacity w.marks) };
 }
 
 impl Watch {
@@ -53,11 +54,9 @@ impl Watch {
     pub fn new(alloc: Global) -> Result<Watch, WantOfMemory>
         ensures { IfOk result (λ watch. watch ≡ nothing_watched) }
     {
+        let marks = Vec::with_capacity(alloc, MAX_LIVE)?;
         let dead = alive(alloc, BANK_LEN as usize)?;
-        Ok(Watch {
-            marks: ArrayVec::new(),
-            dead,
-        })
+        Ok(Watch { marks, dead })
     }
 
     /// Whether no service is live.
@@ -98,7 +97,7 @@ impl Watch {
         requires high { service.frame + frame_size ≤ RAM_BASE + BANK_LEN }
         ensures { self.new ≡ with_service self.old service (service.frame - RAM_BASE) }
     {
-        self.marks.push(service);
+        self.marks.push_reserved(service);
         let place = service.frame - RAM_BASE;
         mark(&mut self.dead, place as usize, FRAME_SIZE as usize, true);
     }

@@ -1,12 +1,12 @@
 -- What was written of a script where memory was wanting.
-use Rattle.std.proofs.Common.{◌≡◌, ◌∙◌, ◌⊎◌, ℕ, List, [], true, Option, Some, None, IsSome, Result, Ok, Err, refl, sym, ap, subst, inl, inr}
+use Rattle.std.proofs.Common.{◌≡◌, ◌∙◌, ◌⊎◌, ℕ, List, [], true, Option, Some, None, IsSome, Result, Ok, Err, refl, sym, subst, inl, inr}
 use Rattle.board_outside.specs.Shelf.{ShelfView}
 use Rattle.board_outside.specs.Sink.{SinkView, Writes}
 use Rattle.board_outside.specs.declared.shelf.ShelfFault.{ShelfFault}
 use Rattle.board_outside.specs.declared.shelf.ShelfFault.TheVariants.{Absent as absent, Failed as failed, Memory as memory}
 use Rattle.hart_memory.specs.Image.{ImageView}
 use Rattle.hart_monitor.specs.declared.command.Command.{Command}
-use Rattle.tool_frame.specs.Due.{Due, Outcome, worked, stopped, refused_due, fault_due}
+use Rattle.tool_frame.specs.Due.{Outcome, worked, stopped, refused_due, fault_due}
 use Rattle.tool_frame.specs.Plan.{Plan, Makes, Asks, go_on}
 use Rattle.tool_frame.specs.Answers.{EndsAs, Passes, Reaches, FollowsWith}
 use Rattle.tool_frame.specs.declared.status.Status.{Status}

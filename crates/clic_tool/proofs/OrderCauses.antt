@@ -9,7 +9,7 @@ use Rattle.chain_moves.specs.declared.broken.Broken.{Broken as BrokenBy}
 use Rattle.chain_core.specs.declared.chain_end.ChainEnd.{ChainEnd}
 use Rattle.chain_core.specs.declared.chain_end.ChainEnd.TheVariants.{Done as done, BudgetSpent as chain_spent, Broken as broken}
 use Rattle.tool_frame.specs.Due.{Due}
-use Rattle.tool_frame.specs.Answers.{FollowsWith, Misuses}
+use Rattle.tool_frame.specs.Answers.{FollowsWith}
 use Rattle.tool_frame.specs.Code.{OfCommand, origin_of}
 use Rattle.tool_frame.specs.declared.status.Status.{Status}
 use Rattle.tool_frame.specs.declared.status.Status.TheVariants.{Done, BudgetSpent, Usage, Broken, VectorFault, Rejected}
@@ -31,6 +31,7 @@ use Rattle.tool_work.specs.Unmem.{unmem_plan}
 use Rattle.tool_work.specs.Lint.{lint_plan}
 use Rattle.tool_work.specs.Bound.{bound_plan}
 use Rattle.tool_words.specs.Order.{Order, Runs, Chains, Monitors, Gens, Assembles, Disassembles, Mems, Unmems, Lints, Bounds}
+use Rattle.clic_tool.specs.Usage.{usage_line, Misuses}
 use Rattle.clic_tool.specs.Plan.{plan_of}
 use Rattle.clic_tool.specs.RunCauses.{RanTo}
 use Rattle.clic_tool.specs.ChainCauses.{ChainedTo}
@@ -153,4 +154,4 @@ usage_cause (Some order) status shelf shelf' sink sink' bench follows e =
 
 pub of_misuse : (order : Option Order) (status : Status) (shelf shelf' : ShelfView) (sink sink' : SinkView) (bench : Bench) → order ≡ None → FollowsWith empty_bench status (plan_of order) shelf shelf' sink sink' bench → Misuses status shelf shelf' sink sink'
 of_misuse order status shelf shelf' sink sink' bench none follows =
-    misuses empty_bench empty_bench status shelf shelf' sink sink' bench (subst (λ (o : Option Order). FollowsWith empty_bench status (plan_of o) shelf shelf' sink sink' bench) none follows)
+    misuses usage_line empty_bench empty_bench status shelf shelf' sink sink' bench (subst (λ (o : Option Order). FollowsWith empty_bench status (plan_of o) shelf shelf' sink sink' bench) none follows)

@@ -1,7 +1,5 @@
 -- What the frame asks of a plan holds of each command's.
-use Rattle.std.proofs.Common.{◌≡◌, ℕ, Option, Some, None, codes, refl, ap, inl, inr}
-use Rattle.hart_memory.specs.Image.{ImageView}
-use Rattle.hart_board.specs.Event.{EventList}
+use Rattle.std.proofs.Common.{◌≡◌, Option, Some, None, codes, refl, ap, inl, inr}
 use Rattle.tool_frame.specs.Due.{Due}
 use Rattle.tool_frame.specs.Plan.{Makes}
 use Rattle.tool_frame.specs.Code.{OfCommand, origin_of}
@@ -14,11 +12,11 @@ use Rattle.hart_board.specs.Run.{every_step}
 use Rattle.hart_board.proofs.Ending.{never_sink_failed}
 use Rattle.tool_work.specs.Shipped.{shipped_meanings}
 use Rattle.tool_work.specs.Bench.{empty_bench}
-use Rattle.tool_work.specs.Files.{image_limit, image_read, script_limit, script_read, source_read, memory_limit, memory_read}
+use Rattle.tool_work.specs.Files.{image_limit, image_read, image_due, script_limit, script_read, source_read, memory_limit, memory_read}
 use Rattle.tool_words.specs.Run.{RunWords}
 use Rattle.tool_work.specs.Run.{run_due, run_made, run_plan}
 use Rattle.tool_words.specs.Chain.{ChainWords}
-use Rattle.tool_work.specs.Chain.{taken_at, unless_taken, slot_plan, chain_due, chain_left, chain_made, chain_plan}
+use Rattle.tool_work.specs.Chain.{taken_at, slot_plan, chain_due, chain_left, chain_made, chain_plan}
 use Rattle.tool_words.specs.Monitor.{MonitorWords}
 use Rattle.tool_work.specs.Monitor.{monitor_due, script_plan, monitor_plan}
 use Rattle.tool_words.specs.Gen.{GenWords}
@@ -30,15 +28,15 @@ use Rattle.tool_work.specs.Disassemble.{listing_due, disassemble_plan}
 use Rattle.tool_words.specs.Mem.{MemWords}
 use Rattle.tool_work.specs.Mem.{mem_due, mem_plan}
 use Rattle.tool_words.specs.Unmem.{UnmemWords}
-use Rattle.tool_work.specs.Unmem.{unmem_due, unmem_plan}
+use Rattle.tool_work.specs.Unmem.{unmem_plan}
 use Rattle.tool_words.specs.Lint.{LintWords}
 use Rattle.tool_work.specs.Lint.{lint_made, lint_due, lint_plan}
 use Rattle.tool_words.specs.Bound.{BoundWords}
 use Rattle.tool_work.specs.Bound.{bound_made, bound_due, bound_plan}
 use Rattle.tool_words.specs.Order.{Order, Runs, Chains, Monitors, Gens, Assembles, Disassembles, Mems, Unmems, Lints, Bounds}
 use Rattle.clic_tool.specs.Plan.{plan_of}
-use Rattle.tool_work.proofs.RunEnds.{IsWorkStatus, end_is_work}
-use Rattle.tool_work.proofs.ChainEnds.{end_is_work as chain_is_work, never_by}
+use Rattle.tool_work.proofs.RunEnds.{IsWorkStatus, done_is_work, done_works, end_is_work}
+use Rattle.tool_work.proofs.ChainEnds.{end_is_work as chain_is_work, never_by, taken_fits}
 use Rattle.tool_work.proofs.GenEnds.{gen_is_work}
 use Rattle.tool_work.proofs.TwoFiles.{files_fit}
 use Rattle.clic_tool.proofs.Verdicts.{IsAnswerStatus, verdict_answers, bound_answers}
@@ -48,12 +46,10 @@ run_fits run =
     files_fit (IsAtOnce IsWorkStatus) run.image_name run.scenario_name (λ image events. Makes (run_due run image events) empty_bench) (λ image events.
     record { status = end_is_work (run_made image events run.bound_is).end (never_sink_failed shipped_meanings every_step events.list run.bound_is _); at_once = refl })
 
-taken_fits : (chain : ChainWords) (image : ImageView) (events : EventList) (taken : Option ℕ) → Fits (IsAtOnce IsWorkStatus) (unless_taken taken (Makes (chain_due chain image events) (chain_left chain image events)))
-taken_fits chain image events None = record { status = chain_is_work (chain_made chain image events) (never_by chain.directs chain.dispatcher_is chain.bound_is events _); at_once = refl }
-taken_fits chain image events (Some at) = tt
-
 pub chain_fits : (chain : ChainWords) → Fits (IsAtOnce IsWorkStatus) (chain_plan chain)
-chain_fits chain = files_fit (IsAtOnce IsWorkStatus) chain.image_name chain.scenario_name (λ image events. slot_plan chain image events) (λ image events. taken_fits chain image events (taken_at image))
+chain_fits chain = files_fit (IsAtOnce IsWorkStatus) chain.image_name chain.scenario_name (λ image events. slot_plan chain image events) (λ image events.
+    taken_fits (IsAtOnce IsWorkStatus) (taken_at image) (Makes (chain_due chain image events) (chain_left chain image events))
+    (record { status = chain_is_work (chain_made chain image events) (never_by chain.directs chain.dispatcher_is chain.bound_is events _); at_once = refl }))
 
 pub gen_fits : (words : GenWords) → Fits (IsAtOnce IsWorkStatus) (gen_plan words)
 gen_fits words = record { status = gen_is_work words.number_is; at_once = refl }
@@ -73,7 +69,7 @@ mem_fits words =
 
 pub unmem_fits : (words : UnmemWords) → Fits (IsAtOnce (λ s. s ≡ Done)) (unmem_plan words)
 unmem_fits words =
-    fits_reads (IsAtOnce (λ s. s ≡ Done)) (codes "memory") memory_limit (memory_read words.entry_is) words.memory_name (λ image. Makes (unmem_due image) empty_bench) (λ image. record { status = refl; at_once = refl })
+    fits_reads (IsAtOnce (λ s. s ≡ Done)) (codes "memory") memory_limit (memory_read words.entry_is) words.memory_name (λ image. Makes (image_due image) empty_bench) (λ image. record { status = refl; at_once = refl })
 
 -- so is a script, whose text is written in parts
 pub monitor_fits : (words : MonitorWords) → Fits (λ due. due.status ≡ Done) (monitor_plan words)
@@ -91,12 +87,6 @@ bound_fits words =
     fits_reads (IsAtOnce IsAnswerStatus) (codes "image") image_limit image_read words.image_name (λ image. Makes (bound_due words image) empty_bench) (λ image. record { status = bound_answers (bound_made words image); at_once = refl })
 
 -- ---- any words
-
-done_is_work : (s : Status) → s ≡ Done → IsWorkStatus s
-done_is_work s e = record { own = rw e refl; no_usage = λ c. cc }
-
-done_works : (due : Due) → IsAtOnce (λ s. s ≡ Done) due → IsAtOnce IsWorkStatus due
-done_works due done = record { status = done_is_work due.status done.status; at_once = done.at_once }
 
 answer_is_work : (s : Status) → IsAnswerStatus s → IsWorkStatus s
 answer_is_work s (inl e) = done_is_work s e

@@ -1,3 +1,4 @@
+pub mod Usage
 pub mod Plan
 pub mod RunCauses
 pub mod ChainCauses

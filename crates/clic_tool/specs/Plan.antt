@@ -1,6 +1,5 @@
 -- What is done of an order.
 use Rattle.std.specs.Prelude.{Option, Some, None}
-use Rattle.tool_frame.specs.Due.{usage_due}
 use Rattle.tool_frame.specs.Plan.{Plan, Makes}
 use Rattle.tool_work.specs.declared.bench.Bench.{Bench}
 use Rattle.tool_work.specs.Bench.{empty_bench}
@@ -14,6 +13,7 @@ use Rattle.tool_work.specs.Mem.{mem_plan}
 use Rattle.tool_work.specs.Unmem.{unmem_plan}
 use Rattle.tool_work.specs.Lint.{lint_plan}
 use Rattle.tool_work.specs.Bound.{bound_plan}
+use Rattle.clic_tool.specs.Usage.{usage_due}
 use Rattle.tool_words.specs.Order.{Order, Runs, Chains, Monitors, Gens, Assembles, Disassembles, Mems, Unmems, Lints, Bounds}
 
 -- the plan of each command; words that are no command give the usage line

@@ -4,7 +4,7 @@ ghost use Rattle.board_outside.specs.Counts.{Rose};
 ghost use Rattle.board_outside.specs.Sink.{Writes};
 ghost use Rattle.hart_board.specs.declared.run_end.RunEnd.TheVariants.{Halted, BudgetSpent, VectorFault};
 ghost use Rattle.tool_frame.specs.Plan.{due_of, outcome_of, HoldsAll};
-ghost use Rattle.tool_frame.specs.Answers.{FollowsWith, Leaves, Misuses, IsCalm, HasDone, IsReady, Succeeds};
+ghost use Rattle.tool_frame.specs.Answers.{FollowsWith, Leaves, IsCalm, HasDone, IsReady, Succeeds};
 ghost use Rattle.tool_frame.specs.Causes.{NoneRose, AtFile, IsAbsentFile, IsFailedFile, IsRefusedFile, StopsShort};
 ghost use Rattle.chain_core.specs.declared.chain_end.ChainEnd.TheVariants as ends;
 ghost use Rattle.chain_moves.specs.declared.broken.Broken.{Broken as BrokenBy};
@@ -16,9 +16,10 @@ ghost use Rattle.tool_words.specs.Gen.{GenWords};
 ghost use Rattle.tool_words.specs.Lint.{LintWords};
 ghost use Rattle.tool_words.specs.Bound.{BoundWords};
 ghost use Rattle.tool_words.specs.Order.{Runs, Chains, Monitors, Gens, Lints, Bounds, order_of, view};
+ghost use Rattle.clic_tool.specs.Usage.{Misuses};
 ghost use Rattle.clic_tool.specs.Plan.{plan_of};
 ghost use Rattle.clic_tool.specs.RunCauses.{RanTo};
-ghost use Rattle.tool_work.specs.Chain.{IsServedTo};
+ghost use Rattle.tool_work.specs.Served.{IsServedTo};
 ghost use Rattle.tool_work.specs.Gen.{AreServed};
 ghost use Rattle.tool_frame.specs.Code.{OfCommand, origin_of};
 ghost use Rattle.clic_tool.specs.ChainCauses.{ChainedTo};
@@ -26,9 +27,10 @@ ghost use Rattle.clic_tool.specs.GenCauses.{GeneratedTo, AreDone};
 ghost use Rattle.clic_tool.specs.MonitorCauses.{WantsInScript};
 ghost use Rattle.clic_tool.specs.LintCauses.{LintedTo, BoundTo, IsYes, IsNo, IsBounded, IsRefused};
 
+use crate::usage::end_usage;
 use board_outside::{Shelf, Sink, Words};
 use std::alloc::Global;
-use tool_frame::{Status, end_usage, status_in};
+use tool_frame::{Status, status_in};
 use tool_words::{Order, read_order};
 use tool_work::{
     Bench, assemble_file, bound_file, chain_files, disassemble_file, generate, lint_file, mem_file,

@@ -3,7 +3,7 @@ use Rattle.std.proofs.Common.{◌≡◌, ℕ, zero, suc, Bool, true, false, List
 use Rattle.device_model.specs.Meanings.{Meanings}
 use Rattle.hart_board.specs.State.{Moment, State}
 use Rattle.hart_board.specs.Step.{Turn, step, kept_if_raised, tried}
-use Rattle.hart_board.specs.Event.{applied, with_events}
+use Rattle.hart_board.specs.Event.{applied, arrived, with_events}
 use Rattle.hart_board.specs.Run.{standing, run_of, steps_of}
 use Rattle.hart_board.specs.Steps.{stands_at, board_at}
 use Rattle.hart_board.specs.declared.event.Event.{Event}
@@ -47,12 +47,20 @@ pub applied_leaves : (m : Meanings) (s : State) (what : What) → (applied m s w
 unfolding applied
 applied_leaves m s what = refl
 
+pub arrived_leaves : (m : Meanings) (s : State) (what : What) → (arrived m s what).kept ≡ s.kept
+unfolding arrived
+arrived_leaves m s what = refl
+
+pub events_leave : (m : Meanings) (count : ℕ) (es : List Event) (s : State) → (with_events m count es s).kept ≡ s.kept
+unfolding with_events
+events_leave m count es s = refl
+
 standing_leaves : (m : Meanings) (es : List Event) (count : ℕ) (new : State) (rises : Bool) → (standing m es count new rises).board.kept ≡ new.kept
 unfolding with_events
 standing_leaves m es count new true = refl
 standing_leaves m es count new false = refl
 
-stands_leave : (m : Meanings) (rises : Stepped → Bool) (es : List Event) (s : State) (k : ℕ) → (board_at m rises es s k).kept ≡ s.kept
+pub stands_leave : (m : Meanings) (rises : Stepped → Bool) (es : List Event) (s : State) (k : ℕ) → (board_at m rises es s k).kept ≡ s.kept
 unfolding stands_at with_events
 stands_leave m rises es s zero = refl
 stands_leave m rises es s (suc k) =

@@ -1,6 +1,7 @@
 -- What lies outside stays valid, answers words, and keeps the controller's shape.
 use Rattle.std.proofs.Common.{◌≡◌, ℕ, zero, suc, ◌+◌, ◌*◌, ◌/◌, ◌%◌, ◌^◌, ◌<◌, ◌≤◌, ◌⊎◌, ◌==◌, Bool, true, false, List, [], ◌∷◌, length, Option, Some, None, IsTrue, refl, sym, ap, ◌∙◌, subst, arith, ⊎_elim}
-use Rattle.std.specs.Prelude.{nat_lt}
+use Rattle.std.specs.Prelude.{nat_lt, if◌then◌else◌}
+use Rattle.std.specs.Bool.{OnFalse}
 use Rattle.std.specs.Option.{option_map}
 use Rattle.std.specs.Int.{from_bool}
 use Rattle.std.proofs.Math.Nat.{pow-suc}
@@ -8,7 +9,8 @@ use Rattle.std.proofs.lemmas.Bool.{and_parts, ltb-true}
 use Rattle.hart_words.specs.Width.{IsWidth}
 use Rattle.device_model.specs.Meanings.{Meanings, IsSound, Keeps}
 use Rattle.device_model.specs.declared.device.TheConstants.{MAX_LINES}
-use Rattle.clic_regs.specs.ClicState.{ClicState, IsClicState, input_count, is_pending, is_enabled}
+use Rattle.clic_regs.specs.ClicState.{ClicState, reset_clic, IsClicState, input_count, is_pending, is_enabled}
+use Rattle.clic_regs.specs.Shape.{ClicShape}
 use Rattle.clic_regs.specs.LineChange.{line_changed}
 use Rattle.clic_regs.specs.Bytes.{value_of, byte_at, byte_read, byte_written}
 use Rattle.clic_regs.specs.declared.clic_byte.ClicByte.{ClicByte}
@@ -19,7 +21,7 @@ use Rattle.hart_board.specs.Valid.{IsOutside}
 use Rattle.hart_board.specs.declared.region.Region.{Region}
 use Rattle.hart_board.specs.declared.region.Region.TheVariants.{Controller, Devices, Nowhere}
 use Rattle.hart_board.specs.declared.outside.TheConstants.{FIRST_DEVICE_INPUT}
-use Rattle.hart_board.specs.Outside.{loaded_in, stored_in, device_loaded, with_device, lines_set}
+use Rattle.hart_board.specs.Outside.{reset_outside, loaded_in, stored_in, device_loaded, with_device, lines_set}
 use Rattle.clic_select.specs.ByteRows.{bytes_read, bytes_written, above, and_then}
 use Rattle.hart_board.specs.Event.{is_free, is_free_input, IsInput, AreEventsFrom, applied_outside, arrived_outside_by, arrived_outside, taken_outside, events_outside}
 use Rattle.hart_board.specs.declared.what.What.{What}
@@ -127,11 +129,20 @@ bytes_stay (suc w) c d offset value e =
     (λ x q. bytes_stay w x d (offset + 1) (value / 256) q)
     e
 
+-- a store to the controller, by whether it was done
+pub store_bytes_shape : (width offset value : ℕ) (c d : ClicState) (done : Bool) → bytes_written c offset width value ≡ (if done then Some d else None) → OnFalse done (d ≡ c) → d.shape ≡ c.shape
+store_bytes_shape width offset value c d true e same = (bytes_stay width c d offset value e).shape
+store_bytes_shape width offset value c d false e same = ap (λ (x : ClicState). x.shape) same
+
 -- ---- accesses and events keep the shape
 
 device_shape : (m : Meanings) (o : Outside) (device : List ℕ) → (with_device m o device).clic.shape ≡ o.clic.shape
 unfolding with_device
 device_shape m o device = lines_shape (m.lines device) FIRST_DEVICE_INPUT o.clic
+
+pub reset_shape : (m : Meanings) (shape : ClicShape) (device : List ℕ) → (reset_outside m shape device).clic.shape ≡ shape
+unfolding reset_clic
+reset_shape m shape device = device_shape m (record { clic = reset_clic shape; device = device }) device
 
 module _ (m : Meanings) (o : Outside) where
   controller_load_shape : (r : Option ℕ) (found : ℕ × Outside) → option_map (λ (v : ℕ). (v, o)) r ≡ Some found → found.1.clic.shape ≡ o.clic.shape

@@ -54,7 +54,7 @@ csr_shape (NextInterrupt form) op rd source csr r c s = next_shape form c s
 csr_shape (Swap by_level) op rd source csr r c s = refl
 csr_shape (Plain writes) op rd source csr r c s = try_shape (accessed writes op csr (operand op r source) c) rd r c s
 
-system_shape : (i : Ins) (r : List ℕ) (c : CsrState) (s : ClicState) → (system i r c s).clic.shape ≡ s.shape
+pub system_shape : (i : Ins) (r : List ℕ) (c : CsrState) (s : ClicState) → (system i r c s).clic.shape ≡ s.shape
 unfolding system csr_instruction
 system_shape Ecall r c s = refl
 system_shape Ebreak r c s = refl
@@ -71,7 +71,7 @@ entry_shape_by : (shv : Bool) (c : CsrState) (s : ClicState) (memory : Memory) (
 entry_shape_by false c s memory t pc = refl
 entry_shape_by true c s memory t pc = through_shape (loaded memory (vector_address c t.id) 4) c s t pc
 
-entry_shape : (c : CsrState) (s : ClicState) (memory : Memory) (t : Choice) (pc : ℕ) → (entered c s memory t pc).clic.shape ≡ s.shape
+pub entry_shape : (c : CsrState) (s : ClicState) (memory : Memory) (t : Choice) (pc : ℕ) → (entered c s memory t pc).clic.shape ≡ s.shape
 unfolding entered
 entry_shape c s memory t pc = entry_shape_by t.shv c s memory t pc
 

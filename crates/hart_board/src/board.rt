@@ -6,8 +6,9 @@ ghost use Rattle.hart_memory.specs.Place.{holds};
 ghost use Rattle.hart_board.specs.State.{State, reset, with_kept, gone_back};
 ghost use Rattle.hart_board.specs.Outside.{reset_outside};
 ghost use Rattle.hart_board.specs.Event.{is_free, applied};
-ghost use Rattle.hart_board.specs.Valid.{IsBoard};
+ghost use Rattle.hart_board.specs.Valid.{IsBoard, IsOfOneShape};
 
+use crate::code::Code;
 use crate::outside::Outside;
 use crate::rest::{Rest, put_first};
 use crate::what::What;
@@ -30,8 +31,10 @@ pub struct Board<D: Device> {
     registers: Regs,
     pc: u32,
     csrs: Csrs,
-    banks: Banks,
+    banks: Code,
     outside: Outside<D>,
+    // The controller's, now and in each state that is kept.
+    shape: Shape,
     // The rest of each state that is kept, the latest first; the memory keeps its own.
     rests: Vec<Rest<D>>,
 }
@@ -41,12 +44,13 @@ impl<D: Device> Model for Board<D> {
     ghost use Rattle.std.specs.Vec.{vec_capacity};
     ghost use Rattle.hart_memory.specs.declared.address_map.TheConstants.{MAX_KEPT};
     ghost use Rattle.hart_board.specs.State.{State, moments};
+    ghost use Rattle.hart_board.specs.Valid.{HaveShape};
 
     ghost Value = { State };
 
     ghost view = { λ b. record { registers = b.registers; pc = b.pc; csrs = b.csrs; memory = b.banks.present; outside = b.outside; kept = moments b.rests.items b.banks.kept } };
 
-    ghost invariant = { λ b. (b.pc % 2 ≡ 0) × (length b.rests.items ≡ length b.banks.kept) × (MAX_KEPT ≤ vec_capacity b.rests) };
+    ghost invariant = { λ b. (b.pc % 2 ≡ 0) × (length b.rests.items ≡ length b.banks.kept) × (MAX_KEPT ≤ vec_capacity b.rests) × (b.outside.clic.shape ≡ b.shape) × HaveShape b.shape b.rests.items };
 }
 
 impl<D: Device> Board<D> {
@@ -61,8 +65,9 @@ impl<D: Device> Board<D> {
             registers: Regs::new(),
             pc: 0,
             csrs: Csrs::new(),
-            banks: Banks::new(alloc)?,
+            banks: Code::new(alloc)?,
             outside: Outside::new(alloc, device, shape)?,
+            shape,
             rests: Vec::with_capacity(alloc, MAX_KEPT)?,
         })
     }
@@ -83,7 +88,7 @@ impl<D: Device> Board<D> {
         let _ = self.pc();
         self.registers.in_range();
         self.csrs.in_range();
-        banks_are_whole(&self.banks);
+        banks_are_whole(self.banks.banks());
         self.outside.in_range();
     }
 
@@ -111,13 +116,13 @@ impl<D: Device> Board<D> {
         requires { holds at 1 ≡ true }
         ensures { byte_at self.now.memory at ≡ Some result }
     {
-        self.banks.byte(at)
+        self.banks.banks().byte(at)
     }
 
     pub fn banks(&self) -> &Banks
         ensures { result.now.present ≡ self.now.memory }
     {
-        &self.banks
+        self.banks.banks()
     }
 
     pub fn select(&self) -> &Selector
@@ -215,11 +220,13 @@ impl<D: Device> Board<D> {
         true
     }
 
-    /// How many states are kept.
+    /// How many states are kept. The controller had in each of them the shape that it has now.
     pub fn kept(&self) -> u32
-        ensures { result ≡ length self.now.kept }
+        ensures count { result ≡ length self.now.kept }
+        ensures few { result ≤ MAX_KEPT }
+        ensures shape { IsOfOneShape self.now }
     {
-        self.banks.kept()
+        self.banks.banks().kept()
     }
 
     /// A board in the same state, of which nothing is kept.
@@ -232,6 +239,7 @@ impl<D: Device> Board<D> {
             csrs: self.csrs,
             banks: self.banks.copy(alloc)?,
             outside: self.outside.copy(alloc)?,
+            shape: self.shape,
             rests: Vec::with_capacity(alloc, MAX_KEPT)?,
         })
     }

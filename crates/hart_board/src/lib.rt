@@ -5,8 +5,10 @@
 mod ahead;
 mod arrivals;
 mod board;
+mod code;
 mod event;
 mod events;
+mod known;
 pub mod laws;
 mod outside;
 mod prepared;

@@ -51,7 +51,8 @@ impl<D: Device> Model for Outside<D> {
 // Sets the device's lines as inputs.
 fn sample<D: Device>(select: &mut Selector, device: &D)
     requires { length (D.means.lines (D.state device.now)) ≤ MAX_LINES }
-    ensures { select.new ≡ lines_set FIRST_DEVICE_INPUT (D.means.lines (D.state device.now)) select.old }
+    ensures lines { select.new ≡ lines_set FIRST_DEVICE_INPUT (D.means.lines (D.state device.now)) select.old }
+    ensures shape { select.new.shape ≡ select.old.shape }
 {
     let _ = select.shape();
     for k in 0..device.line_count() {
@@ -110,6 +111,7 @@ impl<D: Device> Outside<D> {
         ensures answer { device_loaded D.means self.old (D.means.after_load self.old.device offset width) (D.means.loaded self.old.device offset width) ≡ option_map (λ value. (value, self.new)) result }
         ensures kept { IfNone result (self.new ≡ self.old) }
         ensures fits { IfSome result (λ value. value < 2 ^ (8 * width)) }
+        ensures shape { self.new.clic.shape ≡ self.old.clic.shape }
     {
         match self.device.load(offset, width) {
             Some(value) => {
@@ -129,6 +131,7 @@ impl<D: Device> Outside<D> {
         requires fits { value < 2 ^ (8 * width) }
         ensures answer { option_map (with_device D.means self.old) (D.means.after_store self.old.device offset width value) ≡ (if result then Some self.new else None) }
         ensures kept { OnFalse result (self.new ≡ self.old) }
+        ensures shape { self.new.clic.shape ≡ self.old.clic.shape }
     {
         if !self.device.store(offset, width, value) {
             return false;
@@ -144,6 +147,7 @@ impl<D: Device> Outside<D> {
         ensures answer { loaded_in D.means self.old width (region at) ≡ option_map (λ value. (value, self.new)) result }
         ensures kept { IfNone result (self.new ≡ self.old) }
         ensures fits { IfSome result (λ value. value < 2 ^ (8 * width)) }
+        ensures shape { self.new.clic.shape ≡ self.old.clic.shape }
     {
         match region_of(at) {
             Region::Controller(offset) => load_bytes(self.select.clic(), offset, width),
@@ -159,6 +163,7 @@ impl<D: Device> Outside<D> {
         requires fits { value < 2 ^ (8 * width) }
         ensures answer { stored_in D.means self.old width value (region at) ≡ (if result then Some self.new else None) }
         ensures kept { OnFalse result (self.new ≡ self.old) }
+        ensures shape { self.new.clic.shape ≡ self.old.clic.shape }
     {
         match region_of(at) {
             Region::Controller(offset) => store_bytes(&mut self.select, offset, width, value),
@@ -170,7 +175,8 @@ impl<D: Device> Outside<D> {
     /// Sets the line of an input.
     pub fn set_line(&mut self, input: u32, high: bool)
         requires { input < input_count self.old.clic }
-        ensures { self.new ≡ record self.old { clic = line_changed self.old.clic input high } }
+        ensures line { self.new ≡ record self.old { clic = line_changed self.old.clic input high } }
+        ensures shape { self.new.clic.shape ≡ self.old.clic.shape }
     {
         self.select.set_line(input, high);
     }
@@ -189,6 +195,7 @@ impl<D: Device> Outside<D> {
             (result ≡ entry.answer) × (csrs.new ≡ entry.csrs) × (self.new ≡ record self.old { clic = entry.clic }) }
         ensures even { GoesToEven result }
         ensures kept { (id : ℕ) → result ≡ VectorFault id → (csrs.new ≡ csrs.old) × (self.new ≡ self.old) }
+        ensures shape { self.new.clic.shape ≡ self.old.clic.shape }
     {
         enter_interrupt(csrs, &mut self.select, banks, choice, pc)
     }
@@ -203,6 +210,7 @@ impl<D: Device> Outside<D> {
             → (registers.new ≡ registers.old) × (csrs.new ≡ csrs.old) × (self.new ≡ self.old) }
         ensures code { (code : ℕ) → result ≡ SystemEnd.Raise code → code < 4096 }
         ensures even { JumpsToEven result }
+        ensures shape { self.new.clic.shape ≡ self.old.clic.shape }
     {
         system(ins, registers, csrs, &mut self.select)
     }
@@ -210,7 +218,8 @@ impl<D: Device> Outside<D> {
     /// Hands something to the device, and samples its lines.
     #[tactic(auto, unfolding(crate::specs::Outside::with_device))]
     pub fn stimulus(&mut self, what: Stimulus)
-        ensures { self.new ≡ with_device D.means self.old (D.means.after_stimulus self.old.device what) }
+        ensures device { self.new ≡ with_device D.means self.old (D.means.after_stimulus self.old.device what) }
+        ensures shape { self.new.clic.shape ≡ self.old.clic.shape }
     {
         self.device.stimulus(what);
         sample(&mut self.select, &self.device);

@@ -3,3 +3,4 @@ pub mod Arithmetic
 pub mod Branches
 pub mod Effect
 pub mod Bounds
+pub mod Operation

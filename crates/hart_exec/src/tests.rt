@@ -15,7 +15,12 @@ fn effect_of(rt: &impl Abort, ins: Ins, first: u32, second: u32) -> Effect {
     regs.set(FIRST, first);
     regs.set(SECOND, second);
     assert!(rt; fits(&ins));
-    execute(&ins, 4, &regs, PC)
+    let operation = operation_of(&ins);
+    assert!(rt; instruction_of(&operation) == Some(ins));
+    match execute(&operation, 4, &regs, PC) {
+        Some(effect) => effect,
+        None => unreachable!(),
+    }
 }
 
 // What an operation on two registers gives, for each row of the operation, both words and the answer.

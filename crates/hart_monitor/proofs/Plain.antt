@@ -1,5 +1,5 @@
 -- The controller keeps its plain shape, in the present state and in all that are kept.
-use Rattle.std.proofs.Common.{◌≡◌, ℕ, zero, suc, ◌+◌, List, [], ◌∷◌, length, Bool, true, false, Option, Some, None, refl, sym, subst, ◌∙◌, arith}
+use Rattle.std.proofs.Common.{◌≡◌, ℕ, zero, suc, ◌+◌, List, [], ◌∷◌, length, Bool, true, false, Option, Some, None, Err, refl, sym, subst, ◌∙◌, arith}
 use Rattle.std.specs.List.{All}
 use Rattle.std.proofs.lemmas.List.Elements.{All-take}
 use Rattle.hart_memory.specs.declared.address_map.TheConstants.{MAX_KEPT}
@@ -26,6 +26,11 @@ use Rattle.hart_monitor.specs.Stopping.{Stopped, unless_break, unless_halted, un
 use Rattle.hart_monitor.specs.Session.{Session, IsPlain, outcome, line_set}
 use Rattle.hart_monitor.specs.declared.command.Command.{Command}
 use Rattle.hart_monitor.specs.declared.command.Command.TheVariants.{Step, Run, Break, Regs, Csr, Mem, Clic, Line, Back}
+use Rattle.board_outside.specs.Sink.{SinkView}
+use Rattle.hart_board.specs.Valid.{IsOfOneShape}
+use Rattle.hart_monitor.specs.Faults.{BreaksOff, Obeys}
+use Rattle.hart_monitor.specs.declared.monitor_fault.MonitorFault.{MonitorFault}
+use Rattle.hart_monitor.specs.declared.monitor_fault.MonitorFault.TheVariants.{SinkFailed, Memory}
 use Rattle.hart_monitor.proofs.Quiet.{nothing_comes}
 
 abbrev HasPlain : Moment → Type 0
@@ -39,6 +44,10 @@ all_more k ks p h (suc i) d l = h i d (omega arith)
 
 all_rest : (k : Moment) (ks : List Moment) → All HasPlain (k ∷ ks) → All HasPlain ks
 all_rest k ks h i d l = h (suc i) d (omega arith)
+
+-- a board in the plain shape, of which the kept states have the board's
+pub plain_in : (s : State) → s.outside.clic.shape ≡ plain_shape → IsOfOneShape s → IsPlain s
+plain_in s e h = record { present = e; kept = λ i d l. h i d l ∙ e }
 
 -- ---- keeping and going back
 
@@ -114,6 +123,22 @@ module _ (m : Meanings) (leaves : (s : State) → (step m s).state.kept ≡ s.ke
   outcome_plain (Clic input) s h = h
   outcome_plain (Line input high) s h = line_plain m input high s.board h
   outcome_plain Back s h = back_plain s.board h
+
+  -- ---- where a command isn't done
+  broken_plain : (c : Command) (s new : Session) (here then : SinkView) → IsPlain s.board → BreaksOff m c s new here then → IsPlain new.board
+  broken_plain (Step n) s new here then h b = subst IsPlain (sym b.1.state) (stands_plain (with_kept s.board) (b.1.k + 1) (kept_plain s.board h))
+  broken_plain (Run n) s new here then h b = subst (λ (x : Session). IsPlain x.board) (sym b.0) (outcome_plain (Run n) s h)
+  broken_plain (Break at) s new here then h b = subst (λ (x : Session). IsPlain x.board) (sym b.0) (outcome_plain (Break at) s h)
+  broken_plain Regs s new here then h b = subst (λ (x : Session). IsPlain x.board) (sym b.0) (outcome_plain Regs s h)
+  broken_plain Csr s new here then h b = subst (λ (x : Session). IsPlain x.board) (sym b.0) (outcome_plain Csr s h)
+  broken_plain (Mem at count) s new here then h b = subst (λ (x : Session). IsPlain x.board) (sym b.0) (outcome_plain (Mem at count) s h)
+  broken_plain (Clic input) s new here then h b = subst (λ (x : Session). IsPlain x.board) (sym b.0) (outcome_plain (Clic input) s h)
+  broken_plain (Line input high) s new here then h b = subst (λ (x : Session). IsPlain x.board) (sym b.0) (outcome_plain (Line input high) s h)
+  broken_plain Back s new here then h b = subst (λ (x : Session). IsPlain x.board) (sym b.0) (outcome_plain Back s h)
+
+  pub fault_plain : (c : Command) (fault : MonitorFault) (s new : Session) (here then : SinkView) → IsPlain s.board → Obeys m c s (Err fault) new here then → IsPlain new.board
+  fault_plain c Memory s new here then h o = subst (λ (x : Session). IsPlain x.board) (sym o.1) h
+  fault_plain c SinkFailed s new here then h o = broken_plain c s new here then h o
 
 -- ---- boards that are made
 

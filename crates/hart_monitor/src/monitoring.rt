@@ -1,7 +1,8 @@
 // A script on a board.
 ghost use Rattle.std.specs.Prelude.{◌≡◌, true, OnOk, IfErr};
 ghost use Rattle.board_outside.specs.Sink.{Writes};
-ghost use Rattle.hart_monitor.specs.Session.{IsPlain, opened, outcome_of};
+ghost use Rattle.clic_regs.specs.Shape.{plain_shape};
+ghost use Rattle.hart_monitor.specs.Session.{opened, outcome_of};
 ghost use Rattle.hart_monitor.specs.Faults.{StopsAt, WritesFront};
 
 use crate::breakpoints::Breakpoints;
@@ -22,12 +23,14 @@ pub fn monitor<D: Device, W: Sink>(
     script: &Script,
     out: &mut W,
 ) -> Result<(), MonitorFault>
-    requires { IsPlain board.old }
+    requires { board.old.outside.clic.shape ≡ plain_shape }
     ensures done { OnOk result (board.new ≡ (outcome_of D.means script.now (opened board.old)).session.board) }
     ensures text { OnOk result (Writes true (W.told out.old) (W.told out.new) (outcome_of D.means script.now (opened board.old)).text) }
     ensures stops { IfErr result (λ fault. StopsAt D.means script.now board.old fault board.new (W.told out.old) (W.told out.new)) }
     ensures front { IfErr result (λ fault. WritesFront fault (W.told out.old) (W.told out.new) (outcome_of D.means script.now (opened board.old)).text) }
+    ensures shape { board.new.outside.clic.shape ≡ plain_shape }
 {
+    let _ = board.kept();
     kept_states_stay::<D>();
     let mut breaks = Breakpoints::new();
     for i in 0..script.len() {

@@ -15,4 +15,4 @@ pub use dead_bytes::{DeadBytes, NoDeadBytes};
 pub use ends::{put_budget_end, put_halt_end, put_steps, put_vector_end};
 pub use hart::{put_hart, put_pc_and_registers};
 pub use stepped::Stepped;
-pub use trace::put_step;
+pub use trace::{put_step, put_told};

@@ -7,6 +7,7 @@ use crate::stepped::Stepped;
 use board_outside::{Sink, SinkFault};
 use hart_words::Line;
 
+#[inline(always)]
 fn fill_word(pc: u32, bits: u32, line: &mut Line)
     requires { line.old ≡ [] }
     ensures { line.new ≡ word_line pc bits }
@@ -18,6 +19,7 @@ fn fill_word(pc: u32, bits: u32, line: &mut Line)
     line.put_text("\n");
 }
 
+#[inline(always)]
 fn fill_half(pc: u32, bits: u32, line: &mut Line)
     requires { line.old ≡ [] }
     ensures { line.new ≡ half_line pc bits }
@@ -42,6 +44,7 @@ fn fill_entry(kind: &str, pc: u32, number: u32, line: &mut Line)
     line.put_text("\n");
 }
 
+#[inline(always)]
 #[tactic(auto, unfolding(crate::specs::Trace::trace_line))]
 fn fill_step(told: &Stepped, line: &mut Line)
     requires { line.old ≡ [] }
@@ -61,6 +64,25 @@ fn fill_step(told: &Stepped, line: &mut Line)
     }
 }
 
+// The same by a call, for a caller that has to stay small.
+#[inline(never)]
+fn fill_by_call(told: &Stepped, line: &mut Line)
+    requires { line.old ≡ [] }
+    ensures { line.new ≡ trace_line told.now }
+{
+    fill_step(told, line);
+}
+
+/// Writes the line of a step. Its code stands in the caller's loop.
+#[inline(always)]
+pub fn put_told<W: Sink>(told: &Stepped, out: &mut W) -> Result<(), SinkFault>
+    ensures { Writes (is_ok result) (W.told out.old) (W.told out.new) (trace_line told.now) }
+{
+    let mut line = Line::new();
+    fill_step(told, &mut line);
+    out.put(line.bytes())
+}
+
 /// Writes the line of a step, where a trace is asked for.
 #[inline(always)]
 pub fn put_step<W: Sink>(on: bool, told: &Stepped, out: &mut W) -> Result<(), SinkFault>
@@ -71,6 +93,6 @@ pub fn put_step<W: Sink>(on: bool, told: &Stepped, out: &mut W) -> Result<(), Si
         return Ok(());
     }
     let mut line = Line::new();
-    fill_step(told, &mut line);
+    fill_by_call(told, &mut line);
     out.put(line.bytes())
 }

@@ -12,3 +12,4 @@ mod tests;
 mod values;
 
 pub use disassembly::{disassemble, disassemble_image};
+pub use listing::{put_half, put_word};

@@ -1,6 +1,7 @@
 // The listing of bytes.
 ghost use Rattle.std.specs.Prelude.{◌≡◌, ◌++◌, ◌+◌, ◌*◌, ◌<◌, ◌≤◌, ◌^◌, [], length, drop, slice_index, true, OnOk};
 ghost use Rattle.hart_memory.specs.Memory.{AreBytes};
+ghost use Rattle.asm_text.specs.Pieces.{printed};
 ghost use Rattle.rvc_encoding.specs.Rows.{spelled16};
 ghost use Rattle.rv_disasm.specs.Fitting.{statement_fits};
 ghost use Rattle.rv_disasm.specs.Printing.{line_pieces};
@@ -56,6 +57,24 @@ fn long_or_word(word: u32) -> Statement
         }
         None => Statement::Word(word),
     }
+}
+
+/// Puts the line of a word at a place, without a line feed: its instruction, or the word where it is none.
+pub fn put_word(line: &mut Line, word: u32, place: u32)
+    requires { line.old ≡ [] }
+    ensures bytes { line.new ≡ printed (line_pieces place (word_statement word)) }
+    ensures len { length line.new ≤ 81 }
+{
+    put_statement(line, &long_or_word(word), place);
+}
+
+/// Puts the line of a half-word at a place, without a line feed: its instruction, or the half-word where it is none.
+pub fn put_half(line: &mut Line, half: u16, place: u32)
+    requires { line.old ≡ [] }
+    ensures bytes { line.new ≡ printed (line_pieces place (short_or (spelled16 half) half)) }
+    ensures len { length line.new ≤ 81 }
+{
+    put_statement(line, &short_or_half(half), place);
 }
 
 // What the bytes from a place on begin with.

@@ -103,12 +103,12 @@ ends_due status sink sink' outcome (inl h) = inl h
 ends_due status sink sink' outcome (inr h) = inr h.1
 
 -- words that are no command
-misused : {B : Type 0} (status : Status) (shelf shelf' : ShelfView) (sink sink' : SinkView) (left : B) (outcome : Outcome B) → (shelf' ≡ shelf) → (outcome ≡ worked usage_due left) → EndsOrWants status sink sink' outcome.due → Misuses status shelf shelf' sink sink'
-misused {B} status shelf shelf' sink sink' left outcome same is ends = record {
+misused : {B : Type 0} (line : List ℕ) (status : Status) (shelf shelf' : ShelfView) (sink sink' : SinkView) (left : B) (outcome : Outcome B) → (shelf' ≡ shelf) → (outcome ≡ worked (usage_due line) left) → EndsOrWants status sink sink' outcome.due → Misuses line status shelf shelf' sink sink'
+misused {B} line status shelf shelf' sink sink' left outcome same is ends = record {
   counts = subst (λ (s : ShelfView). KeepsCounts shelf s) (sym same) (same_counts shelf);
   ends = subst (λ (o : Outcome B). EndsOrWants status sink sink' o.due) is ends;
 }
 
-pub misuses : {B : Type 0} (nothing left : B) (status : Status) (shelf shelf' : ShelfView) (sink sink' : SinkView) (bench : B) → FollowsWith nothing status (Makes usage_due left) shelf shelf' sink sink' bench → Misuses status shelf shelf' sink sink'
-misuses nothing left status shelf shelf' sink sink' bench (inl does) = misused status shelf shelf' sink sink' left does.outcome does.reached.0 does.reached.1 (ends_due status sink sink' does.outcome does.ends)
-misuses nothing left status shelf shelf' sink sink' bench (inr stops) = record { counts = stops.lacks.counts; ends = inr (stops.lacks.status_is, stops.lacks.silent) }
+pub misuses : {B : Type 0} (line : List ℕ) (nothing left : B) (status : Status) (shelf shelf' : ShelfView) (sink sink' : SinkView) (bench : B) → FollowsWith nothing status (Makes (usage_due line) left) shelf shelf' sink sink' bench → Misuses line status shelf shelf' sink sink'
+misuses line nothing left status shelf shelf' sink sink' bench (inl does) = misused line status shelf shelf' sink sink' left does.outcome does.reached.0 does.reached.1 (ends_due status sink sink' does.outcome does.ends)
+misuses line nothing left status shelf shelf' sink sink' bench (inr stops) = record { counts = stops.lacks.counts; ends = inr (stops.lacks.status_is, stops.lacks.silent) }

@@ -1,5 +1,6 @@
 mod NoFault
 mod Found
+pub mod Commands
 pub mod Ends
 pub mod Fits
 pub mod Held

@@ -137,10 +137,10 @@ FollowsWith nothing status plan shelf shelf' sink sink' bench =
 abbrev pub Follows : {B : Type 0} → B → Status → Plan B → ShelfView → ShelfView → SinkView → SinkView → Type 0
 Follows nothing status plan shelf shelf' sink sink' = FollowsWith nothing status plan shelf shelf' sink sink' nothing
 
--- words that are no command: nothing is fetched, and the usage is written
-pub record Misuses (status : Status) (shelf shelf' : ShelfView) (sink sink' : SinkView) : Type 0 where
+-- words that are no command: nothing is fetched, and the usage line is written
+pub record Misuses (line : List ℕ) (status : Status) (shelf shelf' : ShelfView) (sink sink' : SinkView) : Type 0 where
   pub counts : KeepsCounts shelf shelf'
-  pub ends : EndsOrWants status sink sink' usage_due
+  pub ends : EndsOrWants status sink sink' (usage_due line)
 
 -- ---- where nothing fails outside
 

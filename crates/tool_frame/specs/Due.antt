@@ -2,7 +2,7 @@
 use Rattle.std.specs.Prelude.{ℕ, List, [], Bool, false, Option, Some, None}
 use Rattle.board_outside.specs.declared.shelf.ShelfFault.{ShelfFault}
 use Rattle.board_outside.specs.declared.shelf.ShelfFault.TheVariants.{Absent as absent, Failed as failed, Memory as memory}
-use Rattle.tool_frame.specs.Lines.{usage_line, absent_line, failed_line}
+use Rattle.tool_frame.specs.Lines.{absent_line, failed_line}
 use Rattle.tool_frame.specs.declared.status.Status.{Status}
 use Rattle.tool_frame.specs.declared.status.Status.TheVariants.{Usage, Absent, ShelfFailed, Refused, Memory}
 
@@ -16,9 +16,9 @@ pub record Due : Type 0 where
 abbrev pub at_once : List ℕ → Status → Due
 at_once text status = record { text = text; status = status; in_parts = false }
 
--- words that are no command
-abbrev pub usage_due : Due
-usage_due = at_once usage_line Usage
+-- words that are no command: the program's usage line
+abbrev pub usage_due : List ℕ → Due
+usage_due line = at_once line Usage
 
 -- a file that isn't there
 abbrev pub absent_due : List ℕ → Due

@@ -6,3 +6,4 @@ pub mod Plan
 pub mod Answers
 pub mod Files
 pub mod Causes
+pub mod Programs

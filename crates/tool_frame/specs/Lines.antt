@@ -2,9 +2,6 @@
 use Rattle.std.specs.Prelude.{ℕ, List, ◌++◌, codes}
 use Rattle.hart_words.specs.Decimal.{decimal}
 
-unfoldable pub usage_line : List ℕ
-usage_line = codes "usage: clic_tool asm | disasm | run | chain | monitor | gen | mem | unmem | lint | bound\n"
-
 -- a line that ends with a name
 unfoldable pub named_line : List ℕ → List ℕ → List ℕ
 named_line start name = start ++ name ++ codes "\n"

@@ -20,6 +20,10 @@ text_rule name = record (new_rule name) { required = true; action = Some Set }
 abbrev pub number_rule : Text → ℕ → ℕ → Rule
 number_rule name least greatest = record (new_rule name) { required = true; action = Some Set; parser = Some (vp.Unsigned least greatest) }
 
+-- a text that may be given, by name
+abbrev pub option_rule : Text → Rule
+option_rule name = record (new_rule name) { long = Some name; action = Some Set }
+
 -- a flag with no value
 abbrev pub flag_rule : Text → Rule
 flag_rule name = record (new_rule name) { long = Some name; action = Some SetTrue }

@@ -4,7 +4,7 @@ ghost use Rattle.tool_frame.specs.Due.{fault_due, usage_due};
 ghost use Rattle.tool_frame.specs.Answers.{Ends, status_in};
 
 use crate::status::Status;
-use crate::writing::{put_named, put_usage};
+use crate::writing::put_named;
 use board_outside::{ShelfFault, Sink, SinkFault};
 
 /// The status of a command whose text was written so.
@@ -27,11 +27,11 @@ pub fn status_in(end: Result<Status, Status>) -> Status
     }
 }
 
-/// Tells that the words are no command.
-pub fn end_usage<W: Sink>(out: &mut W) -> Status
-    ensures { Ends result (W.told out.old) (W.told out.new) usage_due }
+/// Tells that the words are no command, by the program's usage line.
+pub fn end_usage<W: Sink>(usage: &[u8], out: &mut W) -> Status
+    ensures { Ends result (W.told out.old) (W.told out.new) (usage_due usage.now) }
 {
-    ended(put_usage(out), Status::Usage)
+    ended(out.put(usage), Status::Usage)
 }
 
 /// Tells that the file of that name wasn't given.

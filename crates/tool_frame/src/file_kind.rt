@@ -29,5 +29,5 @@ pub trait FileKind {
         requires { length bytes.now ≤ LIMIT }
         ensures { AnswersStage result (stage self.now bytes.now) };
 
-    ghost fetched: { LIMIT ≤ 4_194_304 };
+    ghost fetched: { LIMIT ≤ 16_777_216 };
 }

@@ -1,9 +1,10 @@
 // What clap finds in the words of a command.
 ghost use Rattle.std.specs.Prelude.{◌≡◌, [], IfOk, option_map, unwrap_or};
+ghost use Rattle.std.specs.Str.{bytes_eq};
 ghost use Rattle.clap.specs.Words.{app_of, first_of, found_of, one_of, rows_of};
-ghost use Rattle.tool_frame.specs.Options.{IsPlainApp, is_flag_on, number_in, rows_taken};
+ghost use Rattle.tool_frame.specs.Options.{IsPlainApp, is_flag_on, number_in, rows_taken, starts_with};
 
-use board_outside::Word;
+use board_outside::{Word, Words};
 use clap::error::ErrorKind;
 use clap::{ArgMatches, Command};
 use hart_words::WantOfMemory;
@@ -28,11 +29,31 @@ pub fn matches_taken<'a>(
     }
 }
 
+fn is_text(a: &str, b: &str) -> bool
+    ensures { result ≡ bytes_eq a.now b.now }
+{
+    a == b
+}
+
+/// Whether the first word is this one, which names a command.
+pub fn names(words: &Words, command: &str) -> bool
+    ensures { result ≡ starts_with command.now words.now }
+{
+    words.len() > 0 && is_text(words.get(0), command)
+}
+
 /// The text of an argument, or an empty one.
 pub fn text_given<'a>(matches: &ArgMatches<'a>, name: &str) -> &'a str
     ensures { result.now ≡ unwrap_or (first_of name.now (rows_of (found_of matches.now))) [] }
 {
     matches.get_str(name).unwrap_or("")
+}
+
+/// The text of an option, where it was given.
+pub fn text_if_given<'a>(matches: &ArgMatches<'a>, name: &str) -> Option<&'a str>
+    ensures { option_map (λ s. s.now) result ≡ first_of name.now (rows_of (found_of matches.now)) }
+{
+    matches.get_str(name)
 }
 
 /// The number of an argument, or 0.

@@ -1,18 +1,9 @@
 // The lines that any command may write.
 ghost use Rattle.std.specs.Prelude.{◌≡◌, ◌++◌, is_ok};
 ghost use Rattle.board_outside.specs.Sink.{Writes};
-ghost use Rattle.tool_frame.specs.Lines.{usage_line, named_line};
+ghost use Rattle.tool_frame.specs.Lines.{named_line};
 
 use board_outside::{Sink, SinkFault};
-
-#[tactic(auto, unfolding(crate::specs::Lines::usage_line))]
-pub fn put_usage<W: Sink>(out: &mut W) -> Result<(), SinkFault>
-    ensures { Writes (is_ok result) (W.told out.old) (W.told out.new) usage_line }
-{
-    out.put(
-        b"usage: clic_tool asm | disasm | run | chain | monitor | gen | mem | unmem | lint | bound\n",
-    )
-}
 
 // Writes one text, and then another.
 fn put_both<W: Sink>(first: &[u8], second: &[u8], out: &mut W) -> Result<(), SinkFault>

@@ -28,7 +28,8 @@ fn chain_command<'a>(alloc: Global) -> Result<Command<'a>, AllocError>
     Ok(with_direct)
 }
 
-fn dispatcher_named(name: &str) -> Option<Dispatcher>
+/// The dispatcher of that name.
+pub fn dispatcher_named(name: &str) -> Option<Dispatcher>
     ensures { result ≡ dispatcher_of name.now }
 {
     if name == "looping" {

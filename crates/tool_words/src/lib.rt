@@ -26,6 +26,7 @@ mod unmem_order;
 
 pub use assemble_order::AssembleOrder;
 pub use bound_order::BoundOrder;
+pub use chain_command::dispatcher_named;
 pub use chain_order::ChainOrder;
 pub use disassemble_order::DisassembleOrder;
 pub use gen_order::GenOrder;

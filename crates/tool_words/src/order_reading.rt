@@ -1,7 +1,5 @@
 // What the words of the program ask for.
 ghost use Rattle.std.specs.Prelude.{◌≡◌, IfOk, option_map};
-ghost use Rattle.std.specs.Str.{bytes_eq};
-ghost use Rattle.tool_frame.specs.Options.{starts_with};
 ghost use Rattle.tool_words.specs.Order.{handler_order_of, file_order_of, order_of, view};
 
 use crate::assemble_command::read_assemble;
@@ -18,19 +16,7 @@ use crate::unmem_command::read_unmem;
 use board_outside::Words;
 use hart_words::WantOfMemory;
 use std::alloc::Global;
-
-fn is_text(a: &str, b: &str) -> bool
-    ensures { result ≡ bytes_eq a.now b.now }
-{
-    a == b
-}
-
-// Whether the first word is this one.
-fn names(words: &Words, command: &str) -> bool
-    ensures { result ≡ starts_with command.now words.now }
-{
-    words.len() > 0 && is_text(words.get(0), command)
-}
+use tool_frame::names;
 
 // What the words ask for, where they are those of a command of handlers.
 fn read_handler_order<'a>(

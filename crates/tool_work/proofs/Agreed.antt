@@ -1,5 +1,5 @@
 -- The chains of one image and its events agree under both dispatchers.
-use Rattle.std.proofs.Common.{◌≡◌, ℕ, ◌+◌, ◌-◌, ◌≤◌, Bool, true, false, List, ◌++◌, length, take, drop, refl, sym, ap, ◌∙◌, subst, arith, length-take, length-drop, length-append}
+use Rattle.std.proofs.Common.{◌≡◌, ℕ, ◌+◌, ◌-◌, ◌≤◌, Bool, true, false, List, ◌++◌, length, take, drop, sym, ap, subst, arith, length-take, length-drop, length-append}
 use Rattle.device_model.specs.Meanings.{Meanings}
 use Rattle.hart_memory.specs.declared.address_map.TheConstants.{BANK_LEN}
 use Rattle.hart_memory.specs.Image.{ImageView}
@@ -21,11 +21,11 @@ use Rattle.chain_core.specs.declared.chain_end.ChainEnd.TheVariants.{Done}
 use Rattle.chain_core.proofs.OtherSlot.{starts_other}
 use Rattle.chain_direct.specs.DirectBoth.{BothDirectAgree}
 use Rattle.chain_direct.specs.DirectText.{direct_end}
-use Rattle.tool_work.specs.Shipped.{shipped_meanings, shipped_board}
+use Rattle.tool_work.specs.Shipped.{shipped_board}
 use Rattle.tool_work.specs.Chain.{chain_board, DoAgree}
 
 -- memory reaches beyond the slot, since it is whole with the slot's bytes
-beyond : (rom bytes : List ℕ) → length bytes ≡ slot_end - base → length (with_slot bytes rom) ≡ BANK_LEN → slot_end ≤ length rom
+pub beyond : (rom bytes : List ℕ) → length bytes ≡ slot_end - base → length (with_slot bytes rom) ≡ BANK_LEN → slot_end ≤ length rom
 unfolding with_slot
 beyond rom bytes n whole =
     let one : length (take base rom ++ (bytes ++ drop slot_end rom)) ≡ length (take base rom) + length (bytes ++ drop slot_end rom) = length-append (take base rom) (bytes ++ drop slot_end rom) in
@@ -68,16 +68,15 @@ module _ (m : Meanings) (d : Dispatcher) (image : ImageView) (events : EventList
       (subst (λ (c : State). chain_end m es Returning other c ≡ record { end = Done more also listed; steps = then }) differ (ends (Done more also listed) (chain_end m es Returning other (chain_board Returning image events)) second)))
 
   -- and with direct services
-  pub direct_agree : ((es : List Event) (one other : ℕ) (b : State) (bytes : List ℕ) (steps bodies services more also listed : ℕ) → slot_end ≤ length b.memory.rom → length bytes ≡ slot_end - base
+  pub direct_agree : ((es : List Event) (one other : ℕ) (b : State) (bytes : List ℕ) (steps bodies services more also listed : ℕ) → length bytes ≡ slot_end - base → Starts m es Looping b → Starts m es Returning (with_slot_bytes bytes b)
       → (direct_end m es Looping one b).end ≡ Done steps bodies services → (direct_end m es Returning other (with_slot_bytes bytes b)).end ≡ Done more also listed
       → BothDirectAgree m es b (with_slot_bytes bytes b) one other steps more bodies also services listed)
       → (one other steps bodies services more also listed : ℕ) → (direct_end m events.list Looping one (chain_board Looping image events)).end ≡ Done steps bodies services → (direct_end m events.list Returning other (chain_board Returning image events)).end ≡ Done more also listed
       → BothDirectAgree m events.list (chain_board Looping image events) (chain_board Returning image events) one other steps more bodies also services listed
   direct_agree law one other steps bodies services more also listed first second =
       let es = events.list in
-      let whole = (starts Looping).valid.memory.rom_len in
       subst (λ (c : State). BothDirectAgree m es (chain_board Looping image events) c one other steps more bodies also services listed) (sym differ)
-      (law es one other (chain_board Looping image events) (slot_bytes Returning) steps bodies services more also listed (omega (arith, whole)) (length-slot_bytes Returning) first
+      (law es one other (chain_board Looping image events) (slot_bytes Returning) steps bodies services more also listed (length-slot_bytes Returning) (starts Looping) (subst (Starts m es Returning) differ (starts Returning)) first
       (subst (λ (c : State). (direct_end m es Returning other c).end ≡ Done more also listed) differ second))
 
 -- by whether they are asked for

@@ -21,10 +21,12 @@ use Rattle.chain_direct.specs.DirectText.{direct_end}
 use Rattle.device_model.specs.Meanings.{Meanings}
 use Rattle.hart_board.specs.declared.event.Event.{Event}
 use Rattle.board_outside.specs.Shelf.{ShelfView}
-use Rattle.tool_frame.specs.Due.{Due, at_once, worked, refused_due}
-use Rattle.tool_frame.specs.Plan.{Makes}
-use Rattle.tool_frame.specs.Answers.{Ends, EndsOrWants, Leaves, FollowsWith}
-use Rattle.tool_frame.proofs.Ends.{makes_with, refuses}
+use Rattle.tool_frame.specs.Due.{Due, Outcome, at_once, worked, refused_due}
+use Rattle.tool_frame.specs.Plan.{Plan}
+use Rattle.tool_frame.specs.Answers.{Ends, Leaves, Reaches, FollowsWith}
+use Rattle.tool_frame.specs.Code.{OfCommand, OfFile, origin_of}
+use Rattle.tool_frame.proofs.Ends.{refuses}
+use Rattle.tool_frame.proofs.Fits.{Fits}
 use Rattle.tool_frame.specs.declared.status.Status.{Status}
 use Rattle.tool_frame.specs.declared.status.Status.TheVariants.{Done, BudgetSpent, SinkFailed, Broken, VectorFault}
 use Rattle.tool_work.specs.Shipped.{shipped_meanings}
@@ -166,13 +168,28 @@ made_left chain image events b b' end {status} {o} {n} {bench} made e there = by
 
 -- ---- a slot that is taken, and one that is free
 
-pub taken_ends : (image : ImageView) (at : ℕ) (due : Due) (left : Bench) {status : Status} (shelf : ShelfView) {sink sink' : SinkView} {line : List ℕ} → IsLeastTaken image.segments (Some at) → line ≡ slot_line at → Ends status sink sink' (refused_due line)
-    → FollowsWith empty_bench status (unless_taken (taken_at image) (Makes due left)) shelf shelf sink sink' empty_bench
-taken_ends image at due left {status} shelf {sink} {sink'} {line} taken is ends =
-    subst (λ (t : Option ℕ). FollowsWith empty_bench status (unless_taken t (Makes due left)) shelf shelf sink sink' empty_bench) (sym (least_is image (Some at) taken))
-    (refuses empty_bench status (slot_line at) shelf sink sink' (subst (λ (l : List ℕ). Ends status sink sink' (refused_due l)) is ends))
+pub taken_ends : {B : Type 0} (nothing : B) (image : ImageView) (at : ℕ) (next : Plan B) {status : Status} (shelf : ShelfView) {sink sink' : SinkView} {line : List ℕ} → IsLeastTaken image.segments (Some at) → line ≡ slot_line at → Ends status sink sink' (refused_due line)
+    → FollowsWith nothing status (unless_taken (taken_at image) next) shelf shelf sink sink' nothing
+taken_ends nothing image at next {status} shelf {sink} {sink'} {line} taken is ends =
+    subst (λ (t : Option ℕ). FollowsWith nothing status (unless_taken t next) shelf shelf sink sink' nothing) (sym (least_is image (Some at) taken))
+    (refuses nothing status (slot_line at) shelf sink sink' (subst (λ (l : List ℕ). Ends status sink sink' (refused_due l)) is ends))
 
-pub free_ends : (image : ImageView) (due : Due) (left : Bench) {status : Status} (shelf : ShelfView) {sink sink' : SinkView} {bench : Bench} → IsLeastTaken image.segments None → EndsOrWants status sink sink' due → Leaves empty_bench status (worked due left) bench
-    → FollowsWith empty_bench status (unless_taken (taken_at image) (Makes due left)) shelf shelf sink sink' bench
-free_ends image due left {status} shelf {sink} {sink'} {bench} free ends leaves =
-    subst (λ (t : Option ℕ). FollowsWith empty_bench status (unless_taken t (Makes due left)) shelf shelf sink sink' bench) (sym (least_is image None free)) (makes_with empty_bench left {due = due} shelf ends leaves)
+pub free_ends : {B : Type 0} (nothing : B) (image : ImageView) (next : Plan B) {status : Status} {shelf shelf' : ShelfView} {sink sink' : SinkView} {bench : B} → IsLeastTaken image.segments None → FollowsWith nothing status next shelf shelf' sink sink' bench
+    → FollowsWith nothing status (unless_taken (taken_at image) next) shelf shelf' sink sink' bench
+free_ends nothing image next {status} {shelf} {shelf'} {sink} {sink'} {bench} free follows =
+    subst (λ (t : Option ℕ). FollowsWith nothing status (unless_taken t next) shelf shelf' sink sink' bench) (sym (least_is image None free)) follows
+
+-- what the frame asks of what follows a slot that is free
+pub taken_fits : {B : Type 0} (P : Due → Type 0) (taken : Option ℕ) (next : Plan B) → Fits P next → Fits P (unless_taken taken next)
+taken_fits P None next fits = fits
+taken_fits P (Some at) next fits = tt
+
+-- the slot was free, where the work was done
+pub record IsFree {B : Type 0} (taken : Option ℕ) (next : Plan B) (shelf shelf' : ShelfView) (outcome : Outcome B) : Type 0 where
+  pub free : taken ≡ None
+  pub rest : Reaches next shelf shelf' outcome
+
+pub is_free : {B : Type 0} (taken : Option ℕ) (next : Plan B) (shelf shelf' : ShelfView) (outcome : Outcome B) → Reaches (unless_taken taken next) shelf shelf' outcome → origin_of outcome.due.status ≡ OfCommand → IsFree taken next shelf shelf' outcome
+is_free None next shelf shelf' outcome reached own = record { free = refl; rest = reached }
+is_free {B} (Some at) next shelf shelf' outcome reached own =
+    let bad : OfFile ≡ OfCommand = sym (ap (λ (o : Outcome B). origin_of o.due.status) reached.1) ∙ own in cc

@@ -3,8 +3,9 @@ pub mod TwoFiles
 pub mod ChainEnds
 pub mod GenEnds
 mod Agreed
+mod Answered
 mod Pulses
 mod WordBytes
 mod Labels
-mod InShape
+pub mod InShape
 mod MemoryTexts

@@ -14,15 +14,23 @@ use Rattle.tool_work.specs.Shipped.{shipped_meanings, shipped_board}
 use Rattle.tool_words.specs.Run.{RunWords}
 use Rattle.tool_work.specs.Run.{run_due, run_told, status_of}
 use Rattle.tool_frame.specs.Answers.{Ends}
-use Rattle.tool_frame.specs.Due.{at_once}
+use Rattle.tool_frame.specs.Due.{Due, at_once}
 use Rattle.tool_frame.specs.Code.{OfCommand, origin_of}
 use Rattle.tool_frame.specs.declared.status.Status.{Status}
 use Rattle.tool_frame.specs.declared.status.Status.TheVariants.{Done, BudgetSpent, Usage, Broken, VectorFault}
+use Rattle.tool_frame.proofs.Fits.{IsAtOnce}
 
 -- the status of work that was made
 pub record IsWorkStatus (s : Status) : Type 0 where
   pub own : origin_of s ≡ OfCommand
   pub no_usage : s ≡ Usage → ⊥
+
+-- work that is always done has one
+pub done_is_work : (s : Status) → s ≡ Done → IsWorkStatus s
+done_is_work s e = record { own = rw e refl; no_usage = λ c. cc }
+
+pub done_works : (due : Due) → IsAtOnce (λ s. s ≡ Done) due → IsAtOnce IsWorkStatus due
+done_works due done = record { status = done_is_work due.status done.status; at_once = done.at_once }
 
 pub end_is_work : (end : RunEnd) → (end ≡ sink_failed → ⊥) → IsWorkStatus (status_of end)
 end_is_work (Halted code steps) never = record { own = refl; no_usage = λ c. cc }

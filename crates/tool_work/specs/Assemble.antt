@@ -1,10 +1,10 @@
 -- What the command `asm` does with its file.
 use Rattle.std.specs.Prelude.{◌++◌, ℕ, List, [], ◌∷◌, Bool, true, false, codes}
-use Rattle.hart_words.specs.Hexadecimal.{hex8}
 use Rattle.board_inputs.specs.ImageFile.{image_text}
 use Rattle.rv_assembler.specs.Symbols.{Symbol}
 use Rattle.rv_assembler.specs.declared.assembled.Assembled.{Assembled}
 use Rattle.rv_assembler.specs.declared.assembling.TheConstants.{MAX_SOURCE}
+use Rattle.lab_names.specs.Name.{name_line}
 use Rattle.tool_frame.specs.Due.{Due, at_once}
 use Rattle.tool_frame.specs.Plan.{Plan, Makes, reads}
 use Rattle.tool_frame.specs.declared.status.Status.TheVariants.{Done}
@@ -12,9 +12,9 @@ use Rattle.tool_work.specs.Bench.{Bench, empty_bench}
 use Rattle.tool_work.specs.Files.{source_read}
 use Rattle.tool_words.specs.Assemble.{AssembleWords}
 
--- a label: its address and its name
-unfoldable pub symbol_line : Symbol → List ℕ
-symbol_line s = hex8 s.address ++ codes " " ++ s.name ++ codes "\n"
+-- the line of a label is that of a name
+abbrev pub symbol_line : Symbol → List ℕ
+symbol_line s = name_line s.address s.name
 
 -- labels in the order of their definition
 abbrev pub symbols_text : List Symbol → List ℕ

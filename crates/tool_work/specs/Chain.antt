@@ -27,9 +27,7 @@ use Rattle.tool_frame.specs.declared.status.Status.{Status}
 use Rattle.tool_frame.specs.declared.status.Status.TheVariants.{Done, BudgetSpent, SinkFailed, Broken}
 use Rattle.tool_work.specs.Shipped.{shipped_meanings, shipped_board}
 use Rattle.tool_work.specs.Bench.{Bench}
-use Rattle.tool_work.specs.Files.{files_plan, PassesFiles}
-use Rattle.board_outside.specs.Shelf.{ShelfView}
-use Rattle.tool_frame.specs.Code.{OfCommand, origin_of}
+use Rattle.tool_work.specs.Files.{files_plan}
 use Rattle.tool_words.specs.Chain.{ChainWords}
 
 -- ---- the slot
@@ -47,7 +45,7 @@ unfoldable pub slot_line : ℕ → List ℕ
 slot_line at = codes "refused image SlotTaken " ++ hex8 at ++ codes "\n"
 
 -- an image that covers the slot is refused
-abbrev pub unless_taken : Option ℕ → Plan Bench → Plan Bench
+abbrev pub unless_taken : {B : Type 0} → Option ℕ → Plan B → Plan B
 unless_taken None next = next
 unless_taken (Some at) next = Refuses (slot_line at)
 
@@ -128,16 +126,3 @@ slot_plan chain image events = unless_taken (taken_at image) (Makes (chain_due c
 
 abbrev pub chain_plan : ChainWords → Plan Bench
 chain_plan chain = files_plan chain.image_name chain.scenario_name (λ image events. slot_plan chain image events)
-
--- its files were given and passed, the slot was free, the board did what the servicing machine does, and under either dispatcher the same is done
-pub record ServedTo (chain : ChainWords) (shelf shelf' : ShelfView) : Type 0 where
-  pub image : ImageView
-  pub events : EventList
-  pub files : PassesFiles chain.image_name chain.scenario_name shelf shelf' image events
-  pub free : taken_at image ≡ None
-  pub served : IsChainServed chain image events
-  pub agree : DoAgree chain.directs image events
-
--- a chain that was made is one
-abbrev pub IsServedTo : ChainWords → Status → ShelfView → ShelfView → Type 0
-IsServedTo chain status shelf shelf' = origin_of status ≡ OfCommand → ServedTo chain shelf shelf'

@@ -2,6 +2,7 @@
 use Rattle.std.specs.Prelude.{ℕ, List, Result, Ok, Err, codes}
 use Rattle.hart_memory.specs.Image.{ImageView}
 use Rattle.hart_board.specs.Event.{EventList}
+use Rattle.board_inputs.specs.ImageFile.{image_text}
 use Rattle.board_inputs.specs.ImageReading.{image_of}
 use Rattle.board_inputs.specs.ScenarioReading.{scenario_of}
 use Rattle.board_inputs.specs.declared.image_why.ImageWhy.{ImageWhy}
@@ -22,8 +23,9 @@ use Rattle.rv_assembler.specs.declared.assembled.Assembled.{Assembled}
 use Rattle.rv_assembler.specs.declared.assembling.TheConstants.{MAX_SOURCE}
 use Rattle.tool_frame.specs.Lines.{refused_line}
 use Rattle.clap.specs.Words.{Text}
+use Rattle.tool_frame.specs.Due.{Due, at_once}
 use Rattle.tool_frame.specs.Plan.{Plan, measured, reads}
-use Rattle.tool_work.specs.Bench.{Bench}
+use Rattle.tool_frame.specs.declared.status.Status.TheVariants.{Done}
 use Rattle.board_outside.specs.Shelf.{ShelfView}
 use Rattle.tool_frame.specs.Answers.{Passes}
 
@@ -53,6 +55,10 @@ image_read bytes = or_line (λ image. image) (λ fault. refused_line (codes "ima
 
 abbrev pub image_stage : List ℕ → Result ImageView (List ℕ)
 image_stage bytes = measured (codes "image") image_limit image_read bytes
+
+-- the file of an image, where a command writes it
+abbrev pub image_due : ImageView → Due
+image_due image = at_once (image_text image) Done
 
 -- ---- a scenario
 
@@ -136,10 +142,10 @@ memory_stage entry bytes = measured (codes "memory") memory_limit (memory_read e
 
 -- ---- an image and then a scenario
 
-abbrev pub scenario_plan : Text → (EventList → Plan Bench) → Plan Bench
+abbrev pub scenario_plan : {B : Type 0} → Text → (EventList → Plan B) → Plan B
 scenario_plan name next = reads (codes "scenario") scenario_limit scenario_read name next
 
-abbrev pub files_plan : Text → Text → (ImageView → EventList → Plan Bench) → Plan Bench
+abbrev pub files_plan : {B : Type 0} → Text → Text → (ImageView → EventList → Plan B) → Plan B
 files_plan image_name scenario_name next = reads (codes "image") image_limit image_read image_name (λ image. scenario_plan scenario_name (next image))
 
 -- both files were given and passed, one after the other

@@ -14,3 +14,5 @@ pub mod Unmem
 pub mod Region
 pub mod Lint
 pub mod Bound
+pub mod Checked
+pub mod Served

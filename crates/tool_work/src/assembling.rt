@@ -9,23 +9,18 @@ ghost use Rattle.tool_work.specs.Assemble.{symbol_line, symbols_text, program_te
 use crate::image_file::text_of_image;
 use crate::source_file::SourceFile;
 use board_outside::{Shelf, Sink};
-use hart_words::{Line, Text, WantOfMemory};
+use hart_words::{Text, WantOfMemory};
+use lab_names::put_name;
 use rv_assembler::{Assembled, Symbols};
 use std::alloc::Global;
 use tool_frame::{Status, ended, read_file};
 use tool_words::AssembleOrder;
 
-// Adds the line of a label. Its name may be longer than a `Line`.
-#[tactic(auto, unfolding(crate::specs::Assemble::symbol_line))]
+// Adds the line of a label.
 fn put_symbol(text: &mut Text, name: &str, address: u32) -> Result<(), WantOfMemory>
     ensures { OnOk result (text.new ≡ text.old ++ symbol_line (record { name = name.now; address = address })) }
 {
-    let mut line = Line::new();
-    line.put_hex8(address);
-    line.put_text(" ");
-    text.push_bytes(line.bytes())?;
-    text.push_bytes(name.as_bytes())?;
-    text.push_bytes(b"\n")
+    put_name(text, address, name.as_bytes())
 }
 
 fn text_of_symbols(alloc: Global, symbols: &Symbols) -> Result<Text, WantOfMemory>

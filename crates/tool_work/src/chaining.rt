@@ -3,7 +3,9 @@ ghost use Rattle.std.specs.Prelude.{◌≡◌, IfOk, Some, None, if◌then◌els
 ghost use Rattle.chain_moves.specs.Words.{HasDispatcher};
 ghost use Rattle.chain_core.specs.Chain.{is_whole};
 ghost use Rattle.tool_work.specs.Bench.{Bench, empty_bench};
-ghost use Rattle.tool_work.specs.Chain.{IsServedTo, IsChainServed, DoAgree, slot_line, status_of, chain_board, chain_due, chain_left, chain_plan};
+ghost use Rattle.tool_work.specs.Served.{IsServedTo};
+ghost use Rattle.tool_work.specs.Checked.{IsCheckedBy};
+ghost use Rattle.tool_work.specs.Chain.{IsChainServed, DoAgree, slot_line, status_of, chain_board, chain_due, chain_left, chain_plan};
 ghost use Rattle.tool_words.specs.Chain.{view_chain};
 ghost use Rattle.tool_frame.specs.Code.{OfCommand, origin_of};
 ghost use Rattle.tool_frame.specs.Due.{worked};
@@ -12,6 +14,7 @@ ghost use Rattle.tool_frame.specs.Answers.{EndsOrWants, Leaves, FollowsWith, sta
 use crate::agreeing::chains_agree;
 use crate::bench::Bench;
 use crate::chain_running::run_chain;
+use crate::checking::answers_hold;
 use crate::image_file::ImageFile;
 use crate::running::new_board;
 use crate::scenario_file::ScenarioFile;
@@ -49,9 +52,9 @@ fn is_whole(end: &ChainEnd) -> bool
     }
 }
 
-// The line of an image that covers the slot, whose least address that is covered is this one.
+/// The line of an image that covers the slot, whose least address that is covered is this one.
 #[tactic(auto, unfolding(crate::specs::Chain::slot_line))]
-fn line_of_slot(at: u32) -> Line
+pub fn line_of_slot(at: u32) -> Line
     ensures { result ≡ slot_line at }
 {
     let mut line = Line::new();
@@ -74,7 +77,6 @@ pub fn board_with(
 {
     let mut board = new_board(alloc, events.shape())?;
     load_image(image, &mut board);
-    board.in_range();
     install(&mut board, dispatcher);
     Ok(board)
 }
@@ -89,9 +91,9 @@ fn leave(end: &ChainEnd, board: Board<AllDevices>, bench: &mut Bench)
     }
 }
 
-// Runs the image with the events under the dispatcher, as the words say, on a board of its own in their
-// shape. Where all was written, the board goes to the bench.
-fn chain_image<W: Sink>(
+/// Runs the image with the events under the dispatcher, as the words say, on a board of its own in their
+/// shape. Where all was written, the board goes to the bench.
+pub fn chain_image<W: Sink>(
     alloc: Global,
     order: &ChainOrder<'_>,
     image: &Image,
@@ -104,12 +106,14 @@ fn chain_image<W: Sink>(
     ensures leaves { Leaves empty_bench result (worked (chain_due (view_chain order.now) image.now events.now) (chain_left (view_chain order.now) image.now events.now)) bench.new }
     ensures served { origin_of result ≡ OfCommand → IsChainServed (view_chain order.now) image.now events.now }
     ensures agree { origin_of result ≡ OfCommand → DoAgree order.now.direct image.now events.now }
+    ensures checked { origin_of result ≡ OfCommand → IsCheckedBy order.now.direct order.now.dispatcher image.now events.now }
 {
     let mut board = match board_with(alloc, order.dispatcher, image, events) {
         Ok(board) => board,
         Err(_) => return Status::Memory,
     };
     chains_agree(&board, order.dispatcher, events);
+    answers_hold(&board, order.dispatcher, events);
     match run_chain(alloc, order, &mut board, events, out) {
         Ok(end) => {
             leave(&end, board, bench);

@@ -1,13 +1,15 @@
 // Image files.
 ghost use Rattle.std.specs.Prelude.{◌≡◌, ◌≤◌, length, IfOk};
 ghost use Rattle.board_inputs.specs.ImageFile.{image_text};
-ghost use Rattle.tool_work.specs.Files.{image_why};
+ghost use Rattle.tool_frame.specs.Answers.{EndsOrWants};
+ghost use Rattle.tool_work.specs.Files.{image_why, image_due};
 
 use board_inputs::{ImageError, ImageWhy, read_image, write_image};
+use board_outside::Sink;
 use hart_memory::Image;
 use hart_words::{Text, WantOfMemory};
 use std::alloc::Global;
-use tool_frame::{FileKind, Stop, line_of_refusal};
+use tool_frame::{FileKind, Status, Stop, ended, line_of_refusal};
 
 /// Image files: each gives an image.
 #[derive(Drop)]
@@ -32,6 +34,16 @@ pub fn text_of_image(alloc: Global, image: &Image) -> Result<Text, WantOfMemory>
     ensures { IfOk result (λ text. text ≡ image_text image.now) }
 {
     write_image(alloc, image)
+}
+
+/// Writes the file of an image.
+pub fn put_image<W: Sink>(alloc: Global, image: &Image, out: &mut W) -> Status
+    ensures { EndsOrWants result (W.told out.old) (W.told out.new) (image_due image.now) }
+{
+    match text_of_image(alloc, image) {
+        Ok(text) => ended(out.put(text.bytes()), Status::Done),
+        Err(_) => Status::Memory,
+    }
 }
 
 impl FileKind for ImageFile {

@@ -1,26 +1,15 @@
 // What is written of a memory text.
-ghost use Rattle.tool_frame.specs.Answers.{EndsOrWants, Follows, status_in};
+ghost use Rattle.tool_frame.specs.Answers.{Follows, status_in};
 ghost use Rattle.tool_work.specs.Bench.{empty_bench};
 ghost use Rattle.tool_words.specs.Unmem.{view_unmem};
-ghost use Rattle.tool_work.specs.Unmem.{unmem_due, unmem_plan};
+ghost use Rattle.tool_work.specs.Unmem.{unmem_plan};
 
-use crate::image_file::text_of_image;
+use crate::image_file::put_image;
 use crate::memory_file::MemoryFile;
 use board_outside::{Shelf, Sink};
-use hart_memory::Image;
 use std::alloc::Global;
-use tool_frame::{Status, ended, read_file};
+use tool_frame::{Status, read_file};
 use tool_words::UnmemOrder;
-
-// Writes the file of an image.
-fn write_file<W: Sink>(alloc: Global, image: &Image, out: &mut W) -> Status
-    ensures { EndsOrWants result (W.told out.old) (W.told out.new) (unmem_due image.now) }
-{
-    match text_of_image(alloc, image) {
-        Ok(text) => ended(out.put(text.bytes()), Status::Done),
-        Err(_) => Status::Memory,
-    }
-}
 
 /// Reads the memory text and writes its image.
 pub fn unmem_file<F: Shelf, W: Sink>(
@@ -33,5 +22,5 @@ pub fn unmem_file<F: Shelf, W: Sink>(
 {
     let kind = MemoryFile { entry: order.entry };
     let image = read_file(alloc, &kind, order.memory, shelf, out)?;
-    Ok(write_file(alloc, &image, out))
+    Ok(put_image(alloc, &image, out))
 }

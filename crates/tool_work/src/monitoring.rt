@@ -1,7 +1,7 @@
 // A script on the shipped board.
 ghost use Rattle.std.specs.Prelude.{◌≡◌, true, OnOk, IfOk, IfErr};
 ghost use Rattle.board_outside.specs.Sink.{Writes};
-ghost use Rattle.hart_monitor.specs.Session.{IsPlain};
+ghost use Rattle.clic_regs.specs.Shape.{plain_shape};
 ghost use Rattle.hart_monitor.specs.Faults.{WritesFront};
 ghost use Rattle.tool_frame.specs.Answers.{EndsOrWants, Follows, status_in};
 ghost use Rattle.tool_work.specs.Bench.{empty_bench};
@@ -27,7 +27,7 @@ use tool_words::MonitorOrder;
 // The board that the script is for.
 fn monitored_board(alloc: Global, image: &Image) -> Result<Board<AllDevices>, WantOfMemory>
     ensures board { IfOk result (λ board. board ≡ monitored_board image.now) }
-    ensures plain { IfOk result (λ board. IsPlain board) }
+    ensures plain { IfOk result (λ board. board.outside.clic.shape ≡ plain_shape) }
 {
     new_boards_are_plain::<AllDevices>();
     let mut board = new_board(alloc, Shape::plain())?;
@@ -45,7 +45,7 @@ fn do_script<W: Sink>(
     out: &mut W,
 ) -> Result<(), MonitorFault>
     requires board { board.old ≡ monitored_board image.now }
-    requires plain { IsPlain board.old }
+    requires plain { board.old.outside.clic.shape ≡ plain_shape }
     ensures text { OnOk result (Writes true (W.told out.old) (W.told out.new) (monitored_text image.now script.now)) }
     ensures front { IfErr result (λ fault. WritesFront fault (W.told out.old) (W.told out.new) (monitored_text image.now script.now)) }
 {

@@ -59,8 +59,8 @@ fn run_shipped<W: Sink>(
     run(board, events, bound, trace, out)
 }
 
-// Runs the image with the events, as the words say, on a board of its own in their shape.
-fn run_image<W: Sink>(
+/// Runs the image with the events, as the words say, on a board of its own in their shape.
+pub fn run_image<W: Sink>(
     alloc: Global,
     order: &RunOrder<'_>,
     image: &Image,

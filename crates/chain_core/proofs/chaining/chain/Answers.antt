@@ -1,6 +1,6 @@
 use Rattle.chain_core.specs.Chain.{StopsInSteps}
 use Rattle.chain_core.proofs.Closed.{closed_end, closed_text, closed_stopped, closed_there}
-use Rattle.chain_core.proofs.ChainEnds.{never_failed, services_from, state_from, stops_by, kept_after, cut_text}
+use Rattle.chain_core.proofs.ChainEnds.{never_failed, services_from, goes_from, state_from, stops_by, kept_after, cut_text}
 use Rattle.chain_core.proofs.chaining.chain.Goals as goal
 
 pub returns-clause-end : goal.returns-clause-end
@@ -23,6 +23,9 @@ returns-clause-stopped g c =
 
 pub returns-clause-services : goal.returns-clause-services
 returns-clause-services g c = services_from g.met.D.Device.sound c.args.bound c.can_start.ensures
+
+pub returns-clause-goes : goal.returns-clause-goes
+returns-clause-goes g c = goes_from g.met.D.Device.sound c.args.bound c.can_start.ensures
 
 pub returns-clause-state : goal.returns-clause-state
 returns-clause-state g c = state_from g.met.D.Device.sound c.args.bound c.can_start.ensures

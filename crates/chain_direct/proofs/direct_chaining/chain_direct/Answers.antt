@@ -1,7 +1,7 @@
 use Rattle.chain_direct.specs.DirectChain.{StopsInStep}
 use Rattle.chain_core.proofs.Closed.{closed_end, closed_text, closed_stopped, closed_there}
 use Rattle.chain_core.proofs.ChainEnds.{kept_after}
-use Rattle.chain_direct.proofs.DirectEnds.{never_failed, services_from, state_from, stops_by, cut_text}
+use Rattle.chain_direct.proofs.DirectEnds.{never_failed, services_from, goes_from, state_from, stops_by, cut_text}
 use Rattle.chain_direct.proofs.direct_chaining.chain_direct.Goals as goal
 
 pub returns-clause-end : goal.returns-clause-end
@@ -24,6 +24,9 @@ returns-clause-stopped g c =
 
 pub returns-clause-services : goal.returns-clause-services
 returns-clause-services g c = services_from g.met.D.Device.sound c.args.bound c.can_start.ensures
+
+pub returns-clause-goes : goal.returns-clause-goes
+returns-clause-goes g c = goes_from g.met.D.Device.sound c.args.bound c.can_start.ensures
 
 pub returns-clause-state : goal.returns-clause-state
 returns-clause-state g c = state_from g.met.D.Device.sound c.args.bound c.can_start.ensures

@@ -44,6 +44,7 @@ loop-i-preserved c =
           ∙ (accepted c.args.code.now.present.rom c.args.region.now c.args.table c.args.pairs.now c.loop-i.i c.from.result d c.loop-i-test.true input c.loop-i.list.items c.in-Some.word c.in_ok-uses.field-0 is c.word_at.result c.word_at.ensures some c.in-Yes.uses yes
           ∙ c.loop-i.invariant.0),
       subst (All IsUse) (sym items) (All-push IsUse c.loop-i.list.items u c.loop-i.invariant.1 (record { level = level; uses = little })),
+      search rules,
     )
 
 pub returns : goal.returns

@@ -10,6 +10,7 @@ invariant-loop-board g l =
     let es = l.events.list in
     record {
       shape : l.events.shape ≡ l.board.outside.clic.shape;
+      kept : l.board.kept ≡ l.fn.board.kept;
       within : l.next ≤ length es;
       ahead : AreEventsFrom l.events.shape.inputs l.count (drop l.next es);
       passed : (c : ℕ) (s : State) → l.count < c → with_events m c (drop l.first es) s ≡ with_events m c (drop l.next es) s;

@@ -1,6 +1,6 @@
 use Rattle.std.proofs.Common.{refl}
+use Rattle.tool_frame.proofs.Commands.{plain_by}
 use Rattle.tool_words.specs.Assemble.{assemble_app}
-use Rattle.tool_words.proofs.Commands.{plain_by}
 use Rattle.tool_words.proofs.assemble_command.read_assemble.Goals as goal
 
 pub matches_taken-requires : goal.matches_taken-requires

@@ -1,6 +1,6 @@
 use Rattle.std.proofs.Common.{refl}
+use Rattle.tool_frame.proofs.Commands.{plain_by}
 use Rattle.tool_words.specs.Monitor.{monitor_app}
-use Rattle.tool_words.proofs.Commands.{plain_by}
 use Rattle.tool_words.proofs.monitor_command.read_monitor.Goals as goal
 
 pub matches_taken-requires : goal.matches_taken-requires

@@ -1,6 +1,6 @@
 use Rattle.std.proofs.Common.{refl}
+use Rattle.tool_frame.proofs.Commands.{plain_by}
 use Rattle.tool_words.specs.Run.{run_app}
-use Rattle.tool_words.proofs.Commands.{plain_by}
 use Rattle.tool_words.proofs.run_command.read_run.Goals as goal
 
 pub matches_taken-requires : goal.matches_taken-requires

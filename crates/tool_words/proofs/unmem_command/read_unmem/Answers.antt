@@ -1,6 +1,6 @@
 use Rattle.std.proofs.Common.{refl}
+use Rattle.tool_frame.proofs.Commands.{plain_by}
 use Rattle.tool_words.specs.Unmem.{unmem_app}
-use Rattle.tool_words.proofs.Commands.{plain_by}
 use Rattle.tool_words.proofs.unmem_command.read_unmem.Goals as goal
 
 pub matches_taken-requires : goal.matches_taken-requires

@@ -8,6 +8,9 @@ use Rattle.tool_work.proofs.chaining.chain_image.Goals as goal
 pub chains_agree-requires-clause-level : goal.chains_agree-requires-clause-level
 chains_agree-requires-clause-level g c = ap (λ (s : State). s.csrs.mil) c.in-Ok.ensures.board ∙ shipped_level c.args.events.now.shape
 
+pub answers_hold-requires-clause-level : goal.answers_hold-requires-clause-level
+answers_hold-requires-clause-level g c = ap (λ (s : State). s.csrs.mil) c.in-Ok.ensures.board ∙ shipped_level c.args.events.now.shape
+
 pub run_chain-requires-clause-level : goal.run_chain-requires-clause-level
 run_chain-requires-clause-level g c = ap (λ (s : State). s.csrs.mil) c.in-Ok.ensures.board ∙ shipped_level c.args.events.now.shape
 

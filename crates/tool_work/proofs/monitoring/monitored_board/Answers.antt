@@ -11,4 +11,4 @@ unfolding shipped_board shipped_meanings
 returns-clause-plain c =
     let made : IsPlain (shipped_board plain_shape) = c.new_boards_are_plain.ensures.made shipped_state in
     let is : c.in_ok-board.board ≡ shipped_board plain_shape = c.in_ok-board.ensures ∙ ap shipped_board c.plain.ensures in
-    subst IsPlain (sym c.load_image.ensures.exact) (c.new_boards_are_plain.ensures.loaded _ _ (subst IsPlain (sym is) made))
+    (subst IsPlain (sym c.load_image.ensures.exact) (c.new_boards_are_plain.ensures.loaded _ _ (subst IsPlain (sym is) made))).present

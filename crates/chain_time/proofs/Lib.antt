@@ -1,0 +1,15 @@
+pub mod Paths
+pub mod Inversion
+pub mod Steps
+pub mod Turns
+pub mod Closed
+pub mod Within
+pub mod Counting
+pub mod Sums
+pub mod Tops
+pub mod Payments
+pub mod Responses
+pub mod Downward
+pub mod Accepts
+pub mod Fusing
+pub mod Lows

@@ -1,0 +1,10 @@
+pub mod Path
+pub mod Waiting
+pub mod Stretch
+pub mod Own
+pub mod Counts
+pub mod Response
+pub mod Ways
+pub mod Table
+pub mod Text
+pub mod Looping

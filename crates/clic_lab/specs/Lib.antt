@@ -1,0 +1,4 @@
+pub mod Usage
+pub mod Plan
+pub mod SweepCauses
+pub mod TraceCauses

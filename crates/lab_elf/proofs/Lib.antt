@@ -1,0 +1,5 @@
+pub mod Headers
+pub mod Pieces
+pub mod Loads
+pub mod Making
+pub mod Loops

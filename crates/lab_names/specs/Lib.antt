@@ -1,0 +1,5 @@
+pub mod Name
+pub mod Table
+pub mod NamesFile
+pub mod FirstWrong
+pub mod NamesReading

@@ -1,0 +1,5 @@
+pub mod InOrder
+pub mod Loops
+pub mod Told
+mod NotRead
+mod Chains

@@ -1,0 +1,8 @@
+use Rattle.std.proofs.Common.{rules, ap₂, ◌∙◌}
+use Rattle.clap.specs.Words.{with_rule}
+use Rattle.lab_words.proofs.names_command.names_command.Goals as goal
+
+pub returns : goal.returns
+returns c =
+    c.in_ok-with_code.ensures.shape (search rules) ∙ ap₂ with_rule (
+    c.in_ok-with_file.ensures.shape (search rules) ∙ ap₂ with_rule c.new.ensures.app c.text_argument.ensures.rule) c.flag_argument.ensures.rule

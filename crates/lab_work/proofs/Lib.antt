@@ -1,0 +1,2 @@
+pub mod SweepEnds
+pub mod TraceEnds

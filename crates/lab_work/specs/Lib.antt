@@ -1,0 +1,5 @@
+pub mod Files
+pub mod Elf
+pub mod Names
+pub mod Sweep
+pub mod Trace
