@@ -1,5 +1,5 @@
 -- A memory text is read: item by item, reading goes on between tokens.
-use Rattle.std.proofs.Common.{◌≡◌, ℕ, suc, ◌+◌, ◌*◌, ◌<◌, ◌≤◌, ◌⊎◌, inl, inr, List, [], ◌∷◌, ◌++◌, length, length-append, get_or, Bool, true, false, None, Result, Ok, refl, sym, ap, subst, ◌∙◌, append_assoc, arith}
+use Rattle.std.proofs.Common.{◌≡◌, ℕ, suc, ◌+◌, ◌*◌, ◌<◌, ◌≤◌, ◌⊎◌, inl, inr, List, [], ◌∷◌, ◌++◌, length, length-append, get_or, Bool, true, false, Option, Some, None, Result, Ok, Err, refl, sym, ap, subst, ◌∙◌, append_assoc, arith}
 use Rattle.std.specs.Prelude.{◌&&◌, ◌||◌, ◌==◌, not, nat_lt, slice_index}
 use Rattle.std.specs.List.{list_all}
 use Rattle.std.proofs.lemmas.Bool.{lt-ltb}
@@ -13,6 +13,8 @@ use Rattle.hart_memory.specs.declared.image.TheConstants.{MAX_SEGMENTS}
 use Rattle.mem_text.specs.Bytes.{is_white, is_hex, hex_value, kind_of}
 use Rattle.mem_text.specs.Items.{Item, White, LineRemark, BlockRemark, AddressOf, NumberOf, items_text, AreItems, IsDigits, stays_in_line, has_end, goes_on, ends_line, ends_token, digits_after, digit_count, runs, segment_of, IsMemoryText}
 use Rattle.mem_text.specs.Moves.{longer_by, move_of}
+use Rattle.mem_text.specs.FirstWrong.{laid}
+use Rattle.mem_text.specs.declared.mem_why.MemWhy.{MemWhy}
 use Rattle.mem_text.specs.Laying.{Laying, nothing_laid, whole_image, moved_to, with_byte, is_full, why_not}
 use Rattle.mem_text.specs.Reading.{Fault, State, fresh, on_with, begun, made, step, whole, ended, read_text}
 use Rattle.mem_text.specs.declared.token.Token.{Token}
@@ -22,29 +24,29 @@ use Rattle.mem_text.specs.declared.byte_kind.ByteKind.TheVariants.{Digit, LineFe
 use Rattle.mem_text.proofs.ByteKinds.{fact, either, hex_kind, white_kind, feed_kind, star_kind, slash_kind, at_kind, underscore_kind, same_by}
 use Rattle.mem_text.proofs.Forward.{segments_with, more_digits, first_digit, digit_counts, under_counts, under_passed}
 
--- whatever the place, these bytes give this image
-abbrev pub Reads : Token → Laying → List ℕ → ImageView → Type 0
-Reads t l bytes i = (place : ℕ) → whole place (record { laying = l; token = t }) bytes ≡ Ok i
+-- whatever the place, this holds of what these bytes give
+abbrev pub Reads : Token → Laying → List ℕ → (Result ImageView Fault → Type 0) → Type 0
+Reads t l bytes P = (place : ℕ) → P (whole place (record { laying = l; token = t }) bytes)
 
-step_by : (t : Token) (l : Laying) (b place : ℕ) (k : ByteKind) → kind_of b ≡ k → step place (record { laying = l; token = t }) b ≡ made (move_of t k) place (record { laying = l; token = t })
+pub step_by : (t : Token) (l : Laying) (b place : ℕ) (k : ByteKind) → kind_of b ≡ k → step place (record { laying = l; token = t }) b ≡ made (move_of t k) place (record { laying = l; token = t })
 unfolding step
 step_by t l b place k e = ap (λ k. made (move_of t k) place (record { laying = l; token = t })) e
 
 -- a byte that leads on
-pub leads : (t u : Token) (l m : Laying) (b : ℕ) (bs : List ℕ) (i : ImageView) (k : ByteKind) → kind_of b ≡ k
-    → ((place : ℕ) → made (move_of t k) place (record { laying = l; token = t }) ≡ Ok (record { laying = m; token = u })) → Reads u m bs i → Reads t l (b ∷ bs) i
-leads t u l m b bs i k e h r = λ place. ap (λ s. on_with s (λ s. whole (place + 1) s bs)) (step_by t l b place k e ∙ h place) ∙ r (place + 1)
+pub leads : (t u : Token) (l m : Laying) (b : ℕ) (bs : List ℕ) (P : Result ImageView Fault → Type 0) (k : ByteKind) → kind_of b ≡ k
+    → ((place : ℕ) → made (move_of t k) place (record { laying = l; token = t }) ≡ Ok (record { laying = m; token = u })) → Reads u m bs P → Reads t l (b ∷ bs) P
+leads t u l m b bs P k e h r = λ place. subst P (sym (ap (λ s. on_with s (λ s. whole (place + 1) s bs)) (step_by t l b place k e ∙ h place))) (r (place + 1))
 
 -- ---- comments
-line_byte : (l : Laying) (b : ℕ) (bs : List ℕ) (i : ImageView) (k : ByteKind) → kind_of b ≡ k → (b == 10) ≡ false → Reads LineComment l bs i → Reads LineComment l (b ∷ bs) i
-line_byte l b bs i LineFeed e n r = let f : b ≡ 10 = fact b LineFeed e in let t : (b == 10) ≡ true = rw f refl in absurd cc
-line_byte l b bs i (Digit d) e n r = leads LineComment LineComment l l b bs i (Digit d) e (λ p. refl) r
-line_byte l b bs i Blank e n r = leads LineComment LineComment l l b bs i Blank e (λ p. refl) r
-line_byte l b bs i Slash e n r = leads LineComment LineComment l l b bs i Slash e (λ p. refl) r
-line_byte l b bs i Star e n r = leads LineComment LineComment l l b bs i Star e (λ p. refl) r
-line_byte l b bs i At e n r = leads LineComment LineComment l l b bs i At e (λ p. refl) r
-line_byte l b bs i Underscore e n r = leads LineComment LineComment l l b bs i Underscore e (λ p. refl) r
-line_byte l b bs i Other e n r = leads LineComment LineComment l l b bs i Other e (λ p. refl) r
+line_byte : (l : Laying) (b : ℕ) (bs : List ℕ) (P : Result ImageView Fault → Type 0) (k : ByteKind) → kind_of b ≡ k → (b == 10) ≡ false → Reads LineComment l bs P → Reads LineComment l (b ∷ bs) P
+line_byte l b bs P LineFeed e n r = let f : b ≡ 10 = fact b LineFeed e in let t : (b == 10) ≡ true = rw f refl in absurd cc
+line_byte l b bs P (Digit d) e n r = leads LineComment LineComment l l b bs P (Digit d) e (λ p. refl) r
+line_byte l b bs P Blank e n r = leads LineComment LineComment l l b bs P Blank e (λ p. refl) r
+line_byte l b bs P Slash e n r = leads LineComment LineComment l l b bs P Slash e (λ p. refl) r
+line_byte l b bs P Star e n r = leads LineComment LineComment l l b bs P Star e (λ p. refl) r
+line_byte l b bs P At e n r = leads LineComment LineComment l l b bs P At e (λ p. refl) r
+line_byte l b bs P Underscore e n r = leads LineComment LineComment l l b bs P Underscore e (λ p. refl) r
+line_byte l b bs P Other e n r = leads LineComment LineComment l l b bs P Other e (λ p. refl) r
 
 both : (a b : Bool) → (a && b) ≡ true → (a ≡ true) × (b ≡ true)
 both true b e = (refl, e)
@@ -58,18 +60,18 @@ is_not : (a : Bool) → not a ≡ true → a ≡ false
 is_not true e = absurd cc
 is_not false e = refl
 
-line_run : (t : List ℕ) (l : Laying) (rest : List ℕ) (i : ImageView) → stays_in_line t ≡ true → Reads LineComment l rest i → Reads LineComment l (t ++ rest) i
-line_run [] l rest i e r = r
-line_run (b ∷ t) l rest i e r =
+line_run : (t : List ℕ) (l : Laying) (rest : List ℕ) (P : Result ImageView Fault → Type 0) → stays_in_line t ≡ true → Reads LineComment l rest P → Reads LineComment l (t ++ rest) P
+line_run [] l rest P e r = r
+line_run (b ∷ t) l rest P e r =
     let p = both (not (b == 10)) (stays_in_line t) e in
-    line_byte l b (t ++ rest) i (kind_of b) refl (is_not (b == 10) p.0) (line_run t l rest i p.1 r)
+    line_byte l b (t ++ rest) P (kind_of b) refl (is_not (b == 10) p.0) (line_run t l rest P p.1 r)
 
-line_end : (l : Laying) (rest : List ℕ) (i : ImageView) → ends_line rest ≡ true → Reads Between l rest i → Reads LineComment l rest i
+line_end : (l : Laying) (rest : List ℕ) (P : Result ImageView Fault → Type 0) → ends_line rest ≡ true → Reads Between l rest P → Reads LineComment l rest P
 unfolding ended
-line_end l [] i e r = r
-line_end l (b ∷ bs) i e r = λ place.
+line_end l [] P e r = r
+line_end l (b ∷ bs) P e r = λ place.
     let k : kind_of b ≡ LineFeed = ap kind_of (same_by b 10 e) ∙ feed_kind in
-    ap (λ s. on_with s (λ s. whole (place + 1) s bs)) (step_by LineComment l b place LineFeed k ∙ sym (step_by Between l b place LineFeed k)) ∙ r place
+    subst P (ap (λ s. on_with s (λ s. whole (place + 1) s bs)) (step_by Between l b place LineFeed k ∙ sym (step_by LineComment l b place LineFeed k))) (r place)
 
 -- within a comment in /*, straight after a star or not
 abbrev within : Bool → Token
@@ -80,29 +82,29 @@ abbrev starred : Bool → List ℕ → List ℕ
 starred true t = 42 ∷ t
 starred false t = t
 
-block_byte : (l : Laying) (b : ℕ) (bs : List ℕ) (i : ImageView) (k : ByteKind) → kind_of b ≡ k → (b == 42) ≡ false → Reads BlockComment l bs i → Reads BlockComment l (b ∷ bs) i
-block_byte l b bs i Star e n r = let f : b ≡ 42 = fact b Star e in let t : (b == 42) ≡ true = rw f refl in absurd cc
-block_byte l b bs i (Digit d) e n r = leads BlockComment BlockComment l l b bs i (Digit d) e (λ p. refl) r
-block_byte l b bs i LineFeed e n r = leads BlockComment BlockComment l l b bs i LineFeed e (λ p. refl) r
-block_byte l b bs i Blank e n r = leads BlockComment BlockComment l l b bs i Blank e (λ p. refl) r
-block_byte l b bs i Slash e n r = leads BlockComment BlockComment l l b bs i Slash e (λ p. refl) r
-block_byte l b bs i At e n r = leads BlockComment BlockComment l l b bs i At e (λ p. refl) r
-block_byte l b bs i Underscore e n r = leads BlockComment BlockComment l l b bs i Underscore e (λ p. refl) r
-block_byte l b bs i Other e n r = leads BlockComment BlockComment l l b bs i Other e (λ p. refl) r
+block_byte : (l : Laying) (b : ℕ) (bs : List ℕ) (P : Result ImageView Fault → Type 0) (k : ByteKind) → kind_of b ≡ k → (b == 42) ≡ false → Reads BlockComment l bs P → Reads BlockComment l (b ∷ bs) P
+block_byte l b bs P Star e n r = let f : b ≡ 42 = fact b Star e in let t : (b == 42) ≡ true = rw f refl in absurd cc
+block_byte l b bs P (Digit d) e n r = leads BlockComment BlockComment l l b bs P (Digit d) e (λ p. refl) r
+block_byte l b bs P LineFeed e n r = leads BlockComment BlockComment l l b bs P LineFeed e (λ p. refl) r
+block_byte l b bs P Blank e n r = leads BlockComment BlockComment l l b bs P Blank e (λ p. refl) r
+block_byte l b bs P Slash e n r = leads BlockComment BlockComment l l b bs P Slash e (λ p. refl) r
+block_byte l b bs P At e n r = leads BlockComment BlockComment l l b bs P At e (λ p. refl) r
+block_byte l b bs P Underscore e n r = leads BlockComment BlockComment l l b bs P Underscore e (λ p. refl) r
+block_byte l b bs P Other e n r = leads BlockComment BlockComment l l b bs P Other e (λ p. refl) r
 
-star_byte : (l : Laying) (b : ℕ) (bs : List ℕ) (i : ImageView) (k : ByteKind) → kind_of b ≡ k → (b == 42) ≡ false → (b == 47) ≡ false → Reads BlockComment l bs i → Reads AfterStar l (b ∷ bs) i
-star_byte l b bs i Star e n m r = let f : b ≡ 42 = fact b Star e in let t : (b == 42) ≡ true = rw f refl in absurd cc
-star_byte l b bs i Slash e n m r = let f : b ≡ 47 = fact b Slash e in let t : (b == 47) ≡ true = rw f refl in absurd cc
-star_byte l b bs i (Digit d) e n m r = leads AfterStar BlockComment l l b bs i (Digit d) e (λ p. refl) r
-star_byte l b bs i LineFeed e n m r = leads AfterStar BlockComment l l b bs i LineFeed e (λ p. refl) r
-star_byte l b bs i Blank e n m r = leads AfterStar BlockComment l l b bs i Blank e (λ p. refl) r
-star_byte l b bs i At e n m r = leads AfterStar BlockComment l l b bs i At e (λ p. refl) r
-star_byte l b bs i Underscore e n m r = leads AfterStar BlockComment l l b bs i Underscore e (λ p. refl) r
-star_byte l b bs i Other e n m r = leads AfterStar BlockComment l l b bs i Other e (λ p. refl) r
+star_byte : (l : Laying) (b : ℕ) (bs : List ℕ) (P : Result ImageView Fault → Type 0) (k : ByteKind) → kind_of b ≡ k → (b == 42) ≡ false → (b == 47) ≡ false → Reads BlockComment l bs P → Reads AfterStar l (b ∷ bs) P
+star_byte l b bs P Star e n m r = let f : b ≡ 42 = fact b Star e in let t : (b == 42) ≡ true = rw f refl in absurd cc
+star_byte l b bs P Slash e n m r = let f : b ≡ 47 = fact b Slash e in let t : (b == 47) ≡ true = rw f refl in absurd cc
+star_byte l b bs P (Digit d) e n m r = leads AfterStar BlockComment l l b bs P (Digit d) e (λ p. refl) r
+star_byte l b bs P LineFeed e n m r = leads AfterStar BlockComment l l b bs P LineFeed e (λ p. refl) r
+star_byte l b bs P Blank e n m r = leads AfterStar BlockComment l l b bs P Blank e (λ p. refl) r
+star_byte l b bs P At e n m r = leads AfterStar BlockComment l l b bs P At e (λ p. refl) r
+star_byte l b bs P Underscore e n m r = leads AfterStar BlockComment l l b bs P Underscore e (λ p. refl) r
+star_byte l b bs P Other e n m r = leads AfterStar BlockComment l l b bs P Other e (λ p. refl) r
 
-star_again : (star : Bool) (l : Laying) (b : ℕ) (bs : List ℕ) (i : ImageView) → b ≡ 42 → Reads AfterStar l bs i → Reads (within star) l (b ∷ bs) i
-star_again true l b bs i e r = leads AfterStar AfterStar l l b bs i Star (ap kind_of e ∙ star_kind) (λ p. refl) r
-star_again false l b bs i e r = leads BlockComment AfterStar l l b bs i Star (ap kind_of e ∙ star_kind) (λ p. refl) r
+star_again : (star : Bool) (l : Laying) (b : ℕ) (bs : List ℕ) (P : Result ImageView Fault → Type 0) → b ≡ 42 → Reads AfterStar l bs P → Reads (within star) l (b ∷ bs) P
+star_again true l b bs P e r = leads AfterStar AfterStar l l b bs P Star (ap kind_of e ∙ star_kind) (λ p. refl) r
+star_again false l b bs P e r = leads BlockComment AfterStar l l b bs P Star (ap kind_of e ∙ star_kind) (λ p. refl) r
 
 -- no end stands where the comment goes on
 inner : (star : Bool) (b : ℕ) (t : List ℕ) → has_end (starred star (b ∷ t)) ≡ false → has_end (b ∷ t) ≡ false
@@ -115,74 +117,74 @@ no_slash b t e = (neither (b == 47) (has_end (b ∷ t)) e).0
 after_star_too : (b : ℕ) (t : List ℕ) → b ≡ 42 → has_end (b ∷ t) ≡ false → has_end (42 ∷ t) ≡ false
 after_star_too b t e h = let Of : ℕ → Type 0 = λ c. has_end (c ∷ t) ≡ false in subst Of e h
 
-block_by : (b : ℕ) (t : List ℕ) (star is : Bool) (l : Laying) (rest : List ℕ) (i : ImageView) → (b == 42) ≡ is → has_end (starred star (b ∷ (t ++ 42 ∷ []))) ≡ false
-    → ((s : Bool) → has_end (starred s (t ++ 42 ∷ [])) ≡ false → Reads (within s) l (t ++ 42 ∷ 47 ∷ rest) i) → Reads (within star) l (b ∷ (t ++ 42 ∷ 47 ∷ rest)) i
-block_by b t star true l rest i w e ih =
+block_by : (b : ℕ) (t : List ℕ) (star is : Bool) (l : Laying) (rest : List ℕ) (P : Result ImageView Fault → Type 0) → (b == 42) ≡ is → has_end (starred star (b ∷ (t ++ 42 ∷ []))) ≡ false
+    → ((s : Bool) → has_end (starred s (t ++ 42 ∷ [])) ≡ false → Reads (within s) l (t ++ 42 ∷ 47 ∷ rest) P) → Reads (within star) l (b ∷ (t ++ 42 ∷ 47 ∷ rest)) P
+block_by b t star true l rest P w e ih =
     let same = same_by b 42 w in
-    star_again star l b (t ++ 42 ∷ 47 ∷ rest) i same (ih true (after_star_too b (t ++ 42 ∷ []) same (inner star b (t ++ 42 ∷ []) e)))
-block_by b t true false l rest i w e ih =
-    star_byte l b (t ++ 42 ∷ 47 ∷ rest) i (kind_of b) refl w (no_slash b (t ++ 42 ∷ []) e) (ih false (neither _ _ (inner true b (t ++ 42 ∷ []) e)).1)
-block_by b t false false l rest i w e ih =
-    block_byte l b (t ++ 42 ∷ 47 ∷ rest) i (kind_of b) refl w (ih false (neither _ _ e).1)
+    star_again star l b (t ++ 42 ∷ 47 ∷ rest) P same (ih true (after_star_too b (t ++ 42 ∷ []) same (inner star b (t ++ 42 ∷ []) e)))
+block_by b t true false l rest P w e ih =
+    star_byte l b (t ++ 42 ∷ 47 ∷ rest) P (kind_of b) refl w (no_slash b (t ++ 42 ∷ []) e) (ih false (neither _ _ (inner true b (t ++ 42 ∷ []) e)).1)
+block_by b t false false l rest P w e ih =
+    block_byte l b (t ++ 42 ∷ 47 ∷ rest) P (kind_of b) refl w (ih false (neither _ _ e).1)
 
-block_run : (t : List ℕ) (star : Bool) (l : Laying) (rest : List ℕ) (i : ImageView) → has_end (starred star (t ++ 42 ∷ [])) ≡ false → Reads Between l rest i
-    → Reads (within star) l (t ++ 42 ∷ 47 ∷ rest) i
-block_run [] star l rest i e r = star_again star l 42 (47 ∷ rest) i refl (leads AfterStar Between l l 47 rest i Slash slash_kind (λ p. refl) r)
-block_run (b ∷ t) star l rest i e r = block_by b t star (b == 42) l rest i refl e (λ s h. block_run t s l rest i h r)
+block_run : (t : List ℕ) (star : Bool) (l : Laying) (rest : List ℕ) (P : Result ImageView Fault → Type 0) → has_end (starred star (t ++ 42 ∷ [])) ≡ false → Reads Between l rest P
+    → Reads (within star) l (t ++ 42 ∷ 47 ∷ rest) P
+block_run [] star l rest P e r = star_again star l 42 (47 ∷ rest) P refl (leads AfterStar Between l l 47 rest P Slash slash_kind (λ p. refl) r)
+block_run (b ∷ t) star l rest P e r = block_by b t star (b == 42) l rest P refl e (λ s h. block_run t s l rest P h r)
 
 -- ---- digits
 longer_is : (c : Bool) (t : Token) (place : ℕ) (s : State) → c ≡ true → made (longer_by c t) place s ≡ Ok (record s { token = t })
 longer_is c t place s e = ap (λ c. made (longer_by c t) place s) e
 
-address_by : (b : ℕ) (x : List ℕ) (n v : ℕ) (l : Laying) (rest : List ℕ) (i : ImageView) → (is_hex b ≡ true) ⊎ ((b == 95) ≡ true) → n + digit_count (b ∷ x) ≤ 8
-    → ((m : ℕ) → Reads (Address m (digits_after v (b ∷ x))) l rest i)
-    → ((m w : ℕ) → m + digit_count x ≤ 8 → ((k : ℕ) → Reads (Address k (digits_after w x)) l rest i) → Reads (Address m w) l (x ++ rest) i)
-    → Reads (Address n v) l (b ∷ (x ++ rest)) i
-address_by b x n v l rest i (inl h) few r ih =
+address_by : (b : ℕ) (x : List ℕ) (n v : ℕ) (l : Laying) (rest : List ℕ) (P : Result ImageView Fault → Type 0) → (is_hex b ≡ true) ⊎ ((b == 95) ≡ true) → n + digit_count (b ∷ x) ≤ 8
+    → ((m : ℕ) → Reads (Address m (digits_after v (b ∷ x))) l rest P)
+    → ((m w : ℕ) → m + digit_count x ≤ 8 → ((k : ℕ) → Reads (Address k (digits_after w x)) l rest P) → Reads (Address m w) l (x ++ rest) P)
+    → Reads (Address n v) l (b ∷ (x ++ rest)) P
+address_by b x n v l rest P (inl h) few r ih =
     let d = hex_value b in
-    let Of : ℕ → Type 0 = λ w. (k : ℕ) → Reads (Address k w) l rest i in
+    let Of : ℕ → Type 0 = λ w. (k : ℕ) → Reads (Address k w) l rest P in
     let less : n + 1 + digit_count x ≤ 8 = omega (arith, digit_counts b x h) in
     let low : n < 8 = omega arith in
-    leads (Address n v) (Address (n + 1) (v * 16 + d)) l l b (x ++ rest) i (Digit d) (hex_kind b h)
+    leads (Address n v) (Address (n + 1) (v * 16 + d)) l l b (x ++ rest) P (Digit d) (hex_kind b h)
     (λ p. longer_is (nat_lt n 8) (Address (n + 1) (v * 16 + d)) p (record { laying = l; token = Address n v }) (lt-ltb _ _ low))
     (ih (n + 1) (v * 16 + d) less (subst Of (more_digits v b d x h refl) r))
-address_by b x n v l rest i (inr h) few r ih =
+address_by b x n v l rest P (inr h) few r ih =
     let e : b ≡ 95 = same_by b 95 h in
-    let Of : ℕ → Type 0 = λ w. (k : ℕ) → Reads (Address k w) l rest i in
-    leads (Address n v) (Address n v) l l b (x ++ rest) i Underscore (ap kind_of e ∙ underscore_kind) (λ p. refl)
+    let Of : ℕ → Type 0 = λ w. (k : ℕ) → Reads (Address k w) l rest P in
+    leads (Address n v) (Address n v) l l b (x ++ rest) P Underscore (ap kind_of e ∙ underscore_kind) (λ p. refl)
     (ih n v (omega (arith, under_counts b x e)) (subst Of (under_passed v b x e) r))
 
-address_run : (x : List ℕ) (n v : ℕ) (l : Laying) (rest : List ℕ) (i : ImageView) → list_all goes_on x ≡ true → n + digit_count x ≤ 8
-    → ((m : ℕ) → Reads (Address m (digits_after v x)) l rest i) → Reads (Address n v) l (x ++ rest) i
-address_run [] n v l rest i e few r = r n
-address_run (b ∷ x) n v l rest i e few r =
+address_run : (x : List ℕ) (n v : ℕ) (l : Laying) (rest : List ℕ) (P : Result ImageView Fault → Type 0) → list_all goes_on x ≡ true → n + digit_count x ≤ 8
+    → ((m : ℕ) → Reads (Address m (digits_after v x)) l rest P) → Reads (Address n v) l (x ++ rest) P
+address_run [] n v l rest P e few r = r n
+address_run (b ∷ x) n v l rest P e few r =
     let p = both (goes_on b) (list_all goes_on x) e in
-    address_by b x n v l rest i (either (is_hex b) (b == 95) p.0) few r (λ m w f h. address_run x m w l rest i p.1 f h)
+    address_by b x n v l rest P (either (is_hex b) (b == 95) p.0) few r (λ m w f h. address_run x m w l rest P p.1 f h)
 
-number_by : (b : ℕ) (x : List ℕ) (n v : ℕ) (l : Laying) (rest : List ℕ) (i : ImageView) → (is_hex b ≡ true) ⊎ ((b == 95) ≡ true) → n + digit_count (b ∷ x) ≤ 2
-    → ((m : ℕ) → Reads (Number m (digits_after v (b ∷ x))) l rest i)
-    → ((m w : ℕ) → m + digit_count x ≤ 2 → ((k : ℕ) → Reads (Number k (digits_after w x)) l rest i) → Reads (Number m w) l (x ++ rest) i)
-    → Reads (Number n v) l (b ∷ (x ++ rest)) i
-number_by b x n v l rest i (inl h) few r ih =
+number_by : (b : ℕ) (x : List ℕ) (n v : ℕ) (l : Laying) (rest : List ℕ) (P : Result ImageView Fault → Type 0) → (is_hex b ≡ true) ⊎ ((b == 95) ≡ true) → n + digit_count (b ∷ x) ≤ 2
+    → ((m : ℕ) → Reads (Number m (digits_after v (b ∷ x))) l rest P)
+    → ((m w : ℕ) → m + digit_count x ≤ 2 → ((k : ℕ) → Reads (Number k (digits_after w x)) l rest P) → Reads (Number m w) l (x ++ rest) P)
+    → Reads (Number n v) l (b ∷ (x ++ rest)) P
+number_by b x n v l rest P (inl h) few r ih =
     let d = hex_value b in
-    let Of : ℕ → Type 0 = λ w. (k : ℕ) → Reads (Number k w) l rest i in
+    let Of : ℕ → Type 0 = λ w. (k : ℕ) → Reads (Number k w) l rest P in
     let less : n + 1 + digit_count x ≤ 2 = omega (arith, digit_counts b x h) in
     let low : n < 2 = omega arith in
-    leads (Number n v) (Number (n + 1) (v * 16 + d)) l l b (x ++ rest) i (Digit d) (hex_kind b h)
+    leads (Number n v) (Number (n + 1) (v * 16 + d)) l l b (x ++ rest) P (Digit d) (hex_kind b h)
     (λ p. longer_is (nat_lt n 2) (Number (n + 1) (v * 16 + d)) p (record { laying = l; token = Number n v }) (lt-ltb _ _ low))
     (ih (n + 1) (v * 16 + d) less (subst Of (more_digits v b d x h refl) r))
-number_by b x n v l rest i (inr h) few r ih =
+number_by b x n v l rest P (inr h) few r ih =
     let e : b ≡ 95 = same_by b 95 h in
-    let Of : ℕ → Type 0 = λ w. (k : ℕ) → Reads (Number k w) l rest i in
-    leads (Number n v) (Number n v) l l b (x ++ rest) i Underscore (ap kind_of e ∙ underscore_kind) (λ p. refl)
+    let Of : ℕ → Type 0 = λ w. (k : ℕ) → Reads (Number k w) l rest P in
+    leads (Number n v) (Number n v) l l b (x ++ rest) P Underscore (ap kind_of e ∙ underscore_kind) (λ p. refl)
     (ih n v (omega (arith, under_counts b x e)) (subst Of (under_passed v b x e) r))
 
-number_run : (x : List ℕ) (n v : ℕ) (l : Laying) (rest : List ℕ) (i : ImageView) → list_all goes_on x ≡ true → n + digit_count x ≤ 2
-    → ((m : ℕ) → Reads (Number m (digits_after v x)) l rest i) → Reads (Number n v) l (x ++ rest) i
-number_run [] n v l rest i e few r = r n
-number_run (b ∷ x) n v l rest i e few r =
+number_run : (x : List ℕ) (n v : ℕ) (l : Laying) (rest : List ℕ) (P : Result ImageView Fault → Type 0) → list_all goes_on x ≡ true → n + digit_count x ≤ 2
+    → ((m : ℕ) → Reads (Number m (digits_after v x)) l rest P) → Reads (Number n v) l (x ++ rest) P
+number_run [] n v l rest P e few r = r n
+number_run (b ∷ x) n v l rest P e few r =
     let p = both (goes_on b) (list_all goes_on x) e in
-    number_by b x n v l rest i (either (is_hex b) (b == 95) p.0) few r (λ m w f h. number_run x m w l rest i p.1 f h)
+    number_by b x n v l rest P (either (is_hex b) (b == 95) p.0) few r (λ m w f h. number_run x m w l rest P p.1 f h)
 
 zero_no_hex : is_hex 0 ≡ false
 unfolding is_hex
@@ -192,12 +194,12 @@ no_digit : is_hex (slice_index [] 0) ≡ true → ⊥
 no_digit e = let f = zero_no_hex in cc
 
 -- an address or a number ends as its following byte does between tokens
-closes_white : (t : Token) (l m : Laying) (b : ℕ) (bs : List ℕ) (i : ImageView) → ((place : ℕ) (k : ByteKind) → (k ≡ LineFeed) ⊎ ((k ≡ Blank) ⊎ (k ≡ Slash))
+closes_white : (t : Token) (l m : Laying) (b : ℕ) (bs : List ℕ) (P : Result ImageView Fault → Type 0) → ((place : ℕ) (k : ByteKind) → (k ≡ LineFeed) ⊎ ((k ≡ Blank) ⊎ (k ≡ Slash))
     → made (move_of t k) place (record { laying = l; token = t }) ≡ made (move_of Between k) place (record { laying = m; token = Between }))
-    → (is_white b || b == 47) ≡ true → Reads Between m (b ∷ bs) i → Reads t l (b ∷ bs) i
-closes_white t l m b bs i h w r = λ place.
-    let same : (k : ByteKind) → kind_of b ≡ k → (k ≡ LineFeed) ⊎ ((k ≡ Blank) ⊎ (k ≡ Slash)) → whole place (record { laying = l; token = t }) (b ∷ bs) ≡ Ok i
-    = λ k e c. ap (λ s. on_with s (λ s. whole (place + 1) s bs)) (step_by t l b place k e ∙ h place k c ∙ sym (step_by Between m b place k e)) ∙ r place in
+    → (is_white b || b == 47) ≡ true → Reads Between m (b ∷ bs) P → Reads t l (b ∷ bs) P
+closes_white t l m b bs P h w r = λ place.
+    let same : (k : ByteKind) → kind_of b ≡ k → (k ≡ LineFeed) ⊎ ((k ≡ Blank) ⊎ (k ≡ Slash)) → P (whole place (record { laying = l; token = t }) (b ∷ bs))
+    = λ k e c. subst P (sym (ap (λ s. on_with s (λ s. whole (place + 1) s bs)) (step_by t l b place k e ∙ h place k c ∙ sym (step_by Between m b place k e)))) (r place) in
     elim (either (is_white b) (b == 47) w) [
       | inl v ↦ elim (white_kind b v) [ inl e ↦ same LineFeed e (inl refl) | inr e ↦ same Blank e (inr (inl refl)) ]
       | inr v ↦ same Slash (ap kind_of (same_by b 47 v) ∙ slash_kind) (inr (inr refl))
@@ -225,15 +227,15 @@ number_closes n v place l At c = absurd (elim c [ inl e ↦ cc | inr e ↦ elim 
 number_closes n v place l Underscore c = absurd (elim c [ inl e ↦ cc | inr e ↦ elim e [ inl f ↦ cc | inr f ↦ cc ] ])
 number_closes n v place l Other c = absurd (elim c [ inl e ↦ cc | inr e ↦ elim e [ inl f ↦ cc | inr f ↦ cc ] ])
 
-address_end : (n v : ℕ) (l : Laying) (rest : List ℕ) (i : ImageView) → ends_token rest ≡ true → Reads Between (moved_to v l) rest i → Reads (Address n v) l rest i
+address_end : (n v : ℕ) (l : Laying) (rest : List ℕ) (P : Result ImageView Fault → Type 0) → ends_token rest ≡ true → Reads Between (moved_to v l) rest P → Reads (Address n v) l rest P
 unfolding ended
-address_end n v l [] i e r = r
-address_end n v l (b ∷ bs) i e r = closes_white (Address n v) l (moved_to v l) b bs i (λ place k c. address_closes n v place l k c) e r
+address_end n v l [] P e r = r
+address_end n v l (b ∷ bs) P e r = closes_white (Address n v) l (moved_to v l) b bs P (λ place k c. address_closes n v place l k c) e r
 
-number_end : (n v : ℕ) (l : Laying) (rest : List ℕ) (i : ImageView) → ends_token rest ≡ true → Reads Between (with_byte v l) rest i → Reads (Number n v) l rest i
+number_end : (n v : ℕ) (l : Laying) (rest : List ℕ) (P : Result ImageView Fault → Type 0) → ends_token rest ≡ true → Reads Between (with_byte v l) rest P → Reads (Number n v) l rest P
 unfolding ended
-number_end n v l [] i e r = r
-number_end n v l (b ∷ bs) i e r = closes_white (Number n v) l (with_byte v l) b bs i (λ place k c. number_closes n v place l k c) e r
+number_end n v l [] P e r = r
+number_end n v l (b ∷ bs) P e r = closes_white (Number n v) l (with_byte v l) b bs P (λ place k c. number_closes n v place l k c) e r
 
 -- ---- a number's byte may stand where the image's segments stand apart
 holds_at : (at n m : ℕ) → n < m → holds at m ≡ true → holds (at + n) 1 ≡ true
@@ -280,42 +282,83 @@ stands_with v l front behind ss e h =
     stands_before l t behind refl (omega (arith, length-append l.filled (v ∷ front))) (subst Of (sym same) h)
 
 -- ---- item by item
-white_item : (b : ℕ) (l : Laying) (rest : List ℕ) (i : ImageView) → is_white b ≡ true → Reads Between l rest i → Reads Between l (b ∷ rest) i
-white_item b l rest i w r =
+white_item : (b : ℕ) (l : Laying) (rest : List ℕ) (P : Result ImageView Fault → Type 0) → is_white b ≡ true → Reads Between l rest P → Reads Between l (b ∷ rest) P
+white_item b l rest P w r =
     elim (white_kind b w) [
-      | inl e ↦ leads Between Between l l b rest i LineFeed e (λ p. refl) r
-      | inr e ↦ leads Between Between l l b rest i Blank e (λ p. refl) r
+      | inl e ↦ leads Between Between l l b rest P LineFeed e (λ p. refl) r
+      | inr e ↦ leads Between Between l l b rest P Blank e (λ p. refl) r
     ]
 
-line_item : (t : List ℕ) (l : Laying) (rest : List ℕ) (i : ImageView) → stays_in_line t ≡ true → ends_line rest ≡ true → Reads Between l rest i → Reads Between l (47 ∷ 47 ∷ (t ++ rest)) i
-line_item t l rest i s e r =
-    leads Between AfterSlash l l 47 (47 ∷ (t ++ rest)) i Slash slash_kind (λ p. refl)
-    (leads AfterSlash LineComment l l 47 (t ++ rest) i Slash slash_kind (λ p. refl) (line_run t l rest i s (line_end l rest i e r)))
+line_item : (t : List ℕ) (l : Laying) (rest : List ℕ) (P : Result ImageView Fault → Type 0) → stays_in_line t ≡ true → ends_line rest ≡ true → Reads Between l rest P → Reads Between l (47 ∷ 47 ∷ (t ++ rest)) P
+line_item t l rest P s e r =
+    leads Between AfterSlash l l 47 (47 ∷ (t ++ rest)) P Slash slash_kind (λ p. refl)
+    (leads AfterSlash LineComment l l 47 (t ++ rest) P Slash slash_kind (λ p. refl) (line_run t l rest P s (line_end l rest P e r)))
 
-block_item : (t : List ℕ) (l : Laying) (rest : List ℕ) (i : ImageView) → has_end (t ++ 42 ∷ []) ≡ false → Reads Between l rest i → Reads Between l (47 ∷ 42 ∷ (t ++ 42 ∷ 47 ∷ rest)) i
-block_item t l rest i e r =
-    leads Between AfterSlash l l 47 (42 ∷ (t ++ 42 ∷ 47 ∷ rest)) i Slash slash_kind (λ p. refl)
-    (leads AfterSlash BlockComment l l 42 (t ++ 42 ∷ 47 ∷ rest) i Star star_kind (λ p. refl) (block_run t false l rest i e r))
+block_item : (t : List ℕ) (l : Laying) (rest : List ℕ) (P : Result ImageView Fault → Type 0) → has_end (t ++ 42 ∷ []) ≡ false → Reads Between l rest P → Reads Between l (47 ∷ 42 ∷ (t ++ 42 ∷ 47 ∷ rest)) P
+block_item t l rest P e r =
+    leads Between AfterSlash l l 47 (42 ∷ (t ++ 42 ∷ 47 ∷ rest)) P Slash slash_kind (λ p. refl)
+    (leads AfterSlash BlockComment l l 42 (t ++ 42 ∷ 47 ∷ rest) P Star star_kind (λ p. refl) (block_run t false l rest P e r))
 
-address_item : (t : List ℕ) (l : Laying) (rest : List ℕ) (i : ImageView) → IsDigits 8 t → ends_token rest ≡ true → Reads Between (moved_to (digits_after 0 t) l) rest i → Reads Between l (64 ∷ (t ++ rest)) i
-address_item [] l rest i d e r = absurd (no_digit d.begins)
-address_item (b ∷ x) l rest i d e r =
+address_item : (t : List ℕ) (l : Laying) (rest : List ℕ) (P : Result ImageView Fault → Type 0) → IsDigits 8 t → ends_token rest ≡ true → Reads Between (moved_to (digits_after 0 t) l) rest P → Reads Between l (64 ∷ (t ++ rest)) P
+address_item [] l rest P d e r = absurd (no_digit d.begins)
+address_item (b ∷ x) l rest P d e r =
     let p = both (goes_on b) (list_all goes_on x) d.on in
-    let Of : ℕ → Type 0 = λ w. (k : ℕ) → Reads (Address k w) l rest i in
-    leads Between AfterAt l l 64 (b ∷ (x ++ rest)) i At at_kind (λ p. refl)
-    (leads AfterAt (Address 1 (hex_value b)) l l b (x ++ rest) i (Digit (hex_value b)) (hex_kind b d.begins) (λ p. refl)
-    (address_run x 1 (hex_value b) l rest i p.1 (omega (arith, digit_counts b x d.begins, d.few))
-    (subst Of (first_digit b (hex_value b) x d.begins refl) (λ k. address_end k (digits_after 0 (b ∷ x)) l rest i e r))))
+    let Of : ℕ → Type 0 = λ w. (k : ℕ) → Reads (Address k w) l rest P in
+    leads Between AfterAt l l 64 (b ∷ (x ++ rest)) P At at_kind (λ p. refl)
+    (leads AfterAt (Address 1 (hex_value b)) l l b (x ++ rest) P (Digit (hex_value b)) (hex_kind b d.begins) (λ p. refl)
+    (address_run x 1 (hex_value b) l rest P p.1 (omega (arith, digit_counts b x d.begins, d.few))
+    (subst Of (first_digit b (hex_value b) x d.begins refl) (λ k. address_end k (digits_after 0 (b ∷ x)) l rest P e r))))
 
-number_item : (t : List ℕ) (l : Laying) (rest : List ℕ) (i : ImageView) → IsDigits 2 t → ends_token rest ≡ true → why_not l ≡ None → Reads Between (with_byte (digits_after 0 t) l) rest i → Reads Between l (t ++ rest) i
-number_item [] l rest i d e s r = absurd (no_digit d.begins)
-number_item (b ∷ x) l rest i d e s r =
+number_item : (t : List ℕ) (l : Laying) (rest : List ℕ) (P : Result ImageView Fault → Type 0) → IsDigits 2 t → ends_token rest ≡ true → why_not l ≡ None → Reads Between (with_byte (digits_after 0 t) l) rest P → Reads Between l (t ++ rest) P
+number_item [] l rest P d e s r = absurd (no_digit d.begins)
+number_item (b ∷ x) l rest P d e s r =
     let p = both (goes_on b) (list_all goes_on x) d.on in
-    let Of : ℕ → Type 0 = λ w. (k : ℕ) → Reads (Number k w) l rest i in
-    leads Between (Number 1 (hex_value b)) l l b (x ++ rest) i (Digit (hex_value b)) (hex_kind b d.begins) (λ p. ap (λ w. begun w p (hex_value b) l) s)
-    (number_run x 1 (hex_value b) l rest i p.1 (omega (arith, digit_counts b x d.begins, d.few))
-    (subst Of (first_digit b (hex_value b) x d.begins refl) (λ k. number_end k (digits_after 0 (b ∷ x)) l rest i e r)))
+    let Of : ℕ → Type 0 = λ w. (k : ℕ) → Reads (Number k w) l rest P in
+    leads Between (Number 1 (hex_value b)) l l b (x ++ rest) P (Digit (hex_value b)) (hex_kind b d.begins) (λ p. ap (λ w. begun w p (hex_value b) l) s)
+    (number_run x 1 (hex_value b) l rest P p.1 (omega (arith, digit_counts b x d.begins, d.few))
+    (subst Of (first_digit b (hex_value b) x d.begins refl) (λ k. number_end k (digits_after 0 (b ∷ x)) l rest P e r)))
 
+-- a number's first digit that may not stand at its place
+number_refused : (t : List ℕ) (l : Laying) (rest : List ℕ) (P : Result ImageView Fault → Type 0) (why : MemWhy) → IsDigits 2 t → why_not l ≡ Some why → ((place : ℕ) → P (Err (record { place = place; why = why })))
+    → Reads Between l (t ++ rest) P
+number_refused [] l rest P why d s r = absurd (no_digit d.begins)
+number_refused (b ∷ x) l rest P why d s r = λ place.
+    let begins = step_by Between l b place (Digit (hex_value b)) (hex_kind b d.begins) ∙ ap (λ w. begun w place (hex_value b) l) s in
+    subst P (sym (ap (λ s. on_with s (λ s. whole (place + 1) s (x ++ rest))) begins)) (r place)
+
+-- this holds of the first number that may not stand, or of the image
+abbrev pub Stands : (Result ImageView Fault → Type 0) → Option MemWhy → Type 0 → Type 0
+Stands P None next = next
+Stands P (Some why) next = (place : ℕ) → P (Err (record { place = place; why = why }))
+
+abbrev pub Lays : (Result ImageView Fault → Type 0) → List Item → Laying → Type 0
+Lays P [] l = P (Ok (whole_image l))
+Lays P (White b ∷ is) l = Lays P is l
+Lays P (LineRemark t ∷ is) l = Lays P is l
+Lays P (BlockRemark t ∷ is) l = Lays P is l
+Lays P (AddressOf t ∷ is) l = Lays P is (moved_to (digits_after 0 t) l)
+Lays P (NumberOf t ∷ is) l = Stands P (why_not l) (Lays P is (with_byte (digits_after 0 t) l))
+
+number_by_cause : (t : List ℕ) (l : Laying) (rest : List ℕ) (P : Result ImageView Fault → Type 0) (next : Type 0) (w : Option MemWhy) → IsDigits 2 t → ends_token rest ≡ true → why_not l ≡ w → Stands P w next
+    → (next → Reads Between (with_byte (digits_after 0 t) l) rest P) → Reads Between l (t ++ rest) P
+number_by_cause t l rest P next None d e s h r = number_item t l rest P d e s (r h)
+number_by_cause t l rest P next (Some why) d e s h r = number_refused t l rest P why d s h
+
+-- whatever holds of what items lay down holds of what their text gives
+pub items_answered : (is : List Item) (l : Laying) (P : Result ImageView Fault → Type 0) → AreItems is → Lays P is l → Reads Between l (items_text is) P
+unfolding ended
+items_answered [] l P a h = λ place. h
+items_answered (White b ∷ is) l P a h = white_item b l (items_text is) P a.0 (items_answered is l P a.2 h)
+items_answered (LineRemark t ∷ is) l P a h = line_item t l (items_text is) P a.0 a.1 (items_answered is l P a.2 h)
+items_answered (BlockRemark t ∷ is) l P a h =
+    let Of : List ℕ → Type 0 = λ x. Reads Between l (47 ∷ 42 ∷ x) P in
+    subst Of (sym (append_assoc t (42 ∷ 47 ∷ []) (items_text is))) (block_item t l (items_text is) P a.0 (items_answered is l P a.2 h))
+items_answered (AddressOf t ∷ is) l P a h = address_item t l (items_text is) P a.0 a.1 (items_answered is (moved_to (digits_after 0 t) l) P a.2 h)
+items_answered (NumberOf t ∷ is) l P a h =
+    let m = with_byte (digits_after 0 t) l in
+    number_by_cause t l (items_text is) P (Lays P is m) (why_not l) a.0 a.1 refl h (λ k. items_answered is m P a.2 k)
+
+-- ---- items of an image: each number may stand
 image_is : (l : Laying) (i : ImageView) → segments_with l [] ≡ i.segments → l.image.start ≡ i.start → whole_image l ≡ i
 image_is l i e k =
     let same : l.image.segments ++ segment_of l.from l.filled ≡ i.segments
@@ -323,27 +366,46 @@ image_is l i e k =
     let Made : ℕ → List SegmentView → ImageView = λ n ss. record { start = n; segments = ss } in
     ap (λ n. Made n (l.image.segments ++ segment_of l.from l.filled)) k ∙ ap (λ ss. Made i.start ss) same
 
-items_read : (is : List Item) (l : Laying) (i : ImageView) → AreItems is → segments_with l is ≡ i.segments → l.image.start ≡ i.start → AreSound i.segments → Reads Between l (items_text is) i
-unfolding ended
-items_read [] l i a e k s = λ place. ap Ok (image_is l i e k)
-items_read (White b ∷ is) l i a e k s = white_item b l (items_text is) i a.0 (items_read is l i a.2 e k s)
-items_read (LineRemark t ∷ is) l i a e k s = line_item t l (items_text is) i a.0 a.1 (items_read is l i a.2 e k s)
-items_read (BlockRemark t ∷ is) l i a e k s =
-    let Of : List ℕ → Type 0 = λ x. Reads Between l (47 ∷ 42 ∷ x) i in
-    subst Of (sym (append_assoc t (42 ∷ 47 ∷ []) (items_text is))) (block_item t l (items_text is) i a.0 (items_read is l i a.2 e k s))
-items_read (AddressOf t ∷ is) l i a e k s =
-    let v = digits_after 0 t in
+address_same : (v : ℕ) (l : Laying) (is : List Item) (ss : List SegmentView) → l.image.segments ++ (segment_of l.from (l.filled ++ []) ++ (segment_of v (runs is).front ++ (runs is).behind)) ≡ ss
+    → segments_with (moved_to v l) is ≡ ss
+address_same v l is ss e =
     let rest = segment_of v (runs is).front ++ (runs is).behind in
-    let same : segments_with (moved_to v l) is ≡ i.segments
-    = append_assoc l.image.segments (segment_of l.from l.filled) rest ∙ ap (λ f. l.image.segments ++ (segment_of l.from f ++ rest)) (sym (append-nil l.filled)) ∙ e in
-    address_item t l (items_text is) i a.0 a.1 (items_read is (moved_to v l) i a.2 same k s)
-items_read (NumberOf t ∷ is) l i a e k s =
+    append_assoc l.image.segments (segment_of l.from l.filled) rest ∙ ap (λ f. l.image.segments ++ (segment_of l.from f ++ rest)) (sym (append-nil l.filled)) ∙ e
+
+number_same : (v : ℕ) (l : Laying) (is : List Item) (ss : List SegmentView) → l.image.segments ++ (segment_of l.from (l.filled ++ v ∷ (runs is).front) ++ (runs is).behind) ≡ ss
+    → segments_with (with_byte v l) is ≡ ss
+number_same v l is ss e = ap (λ f. l.image.segments ++ (segment_of l.from f ++ (runs is).behind)) (append_assoc l.filled (v ∷ []) (runs is).front) ∙ e
+
+stands_free : (P : Result ImageView Fault → Type 0) (w : Option MemWhy) (next : Type 0) → w ≡ None → next → Stands P w next
+stands_free P None next e h = h
+stands_free P (Some why) next e h = absurd cc
+
+-- behind these items stand others
+pub lays_before : (is js : List Item) (l : Laying) (i : ImageView) (P : Result ImageView Fault → Type 0) → segments_with l is ≡ i.segments → AreSound i.segments → Lays P js (laid is l) → Lays P (is ++ js) l
+lays_before [] js l i P e s h = h
+lays_before (White b ∷ is) js l i P e s h = lays_before is js l i P e s h
+lays_before (LineRemark t ∷ is) js l i P e s h = lays_before is js l i P e s h
+lays_before (BlockRemark t ∷ is) js l i P e s h = lays_before is js l i P e s h
+lays_before (AddressOf t ∷ is) js l i P e s h =
     let v = digits_after 0 t in
-    let front = (runs is).front in
-    let behind = (runs is).behind in
-    let same : segments_with (with_byte v l) is ≡ i.segments
-    = ap (λ f. l.image.segments ++ (segment_of l.from f ++ behind)) (append_assoc l.filled (v ∷ []) front) ∙ e in
-    number_item t l (items_text is) i a.0 a.1 (stands_with v l front behind i.segments e s) (items_read is (with_byte v l) i a.2 same k s)
+    lays_before is js (moved_to v l) i P (address_same v l is i.segments e) s h
+lays_before (NumberOf t ∷ is) js l i P e s h =
+    let v = digits_after 0 t in
+    let free = stands_with v l (runs is).front (runs is).behind i.segments e s in
+    stands_free P (why_not l) (Lays P (is ++ js) (with_byte v l)) free (lays_before is js (with_byte v l) i P (number_same v l is i.segments e) s h)
+
+laid_image : (is : List Item) (l : Laying) (i : ImageView) → segments_with l is ≡ i.segments → l.image.start ≡ i.start → whole_image (laid is l) ≡ i
+laid_image [] l i e k = image_is l i e k
+laid_image (White b ∷ is) l i e k = laid_image is l i e k
+laid_image (LineRemark t ∷ is) l i e k = laid_image is l i e k
+laid_image (BlockRemark t ∷ is) l i e k = laid_image is l i e k
+laid_image (AddressOf t ∷ is) l i e k = let v = digits_after 0 t in laid_image is (moved_to v l) i (address_same v l is i.segments e) k
+laid_image (NumberOf t ∷ is) l i e k = let v = digits_after 0 t in laid_image is (with_byte v l) i (number_same v l is i.segments e) k
+
+items_read : (is : List Item) (l : Laying) (i : ImageView) → AreItems is → segments_with l is ≡ i.segments → l.image.start ≡ i.start → AreSound i.segments → Reads Between l (items_text is) (λ r. r ≡ Ok i)
+items_read is l i a e k s =
+    let Of : List Item → Type 0 = λ js. Lays (λ r. r ≡ Ok i) js l in
+    items_answered is l (λ r. r ≡ Ok i) a (subst Of (append-nil is) (lays_before is [] l i (λ r. r ≡ Ok i) e s (ap Ok (laid_image is l i e k))))
 
 pub text_is_read : (entry : ℕ) (bytes : List ℕ) (i : ImageView) → IsMemoryText bytes entry i → read_text entry bytes ≡ Ok i
 unfolding read_text

@@ -9,3 +9,4 @@ pub mod Rows
 pub mod Foretelling
 pub mod Written
 pub mod Soundness
+pub mod Wrong

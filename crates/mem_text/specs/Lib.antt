@@ -3,5 +3,6 @@ pub mod Items
 pub mod Moves
 pub mod Laying
 pub mod Reading
+pub mod FirstWrong
 pub mod Standing
 pub mod Writing

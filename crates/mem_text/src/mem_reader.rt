@@ -1,8 +1,9 @@
 // A reader of memory text.
-ghost use Rattle.std.specs.Prelude.{◌≡◌, ℕ, ◌+◌, ◌<◌, ◌≤◌, ◌^◌, ◌++◌, List, [], length, Ok, Err, IfOk};
+ghost use Rattle.std.specs.Prelude.{◌≡◌, ℕ, ◌+◌, ◌<◌, ◌≤◌, ◌^◌, ◌++◌, List, [], length, Ok, Err, IfOk, IfErr};
 ghost use Rattle.hart_memory.specs.Image.{ImageView};
 ghost use Rattle.mem_text.specs.Items.{IsMemoryText};
 ghost use Rattle.mem_text.specs.Reading.{fresh, read_text};
+ghost use Rattle.mem_text.specs.FirstWrong.{RefusesFirst};
 ghost use Rattle.mem_text.specs.Standing.{Live, IsLive, HasRead, Foretells, Gives, Stays, Repeats, answer_of};
 
 use crate::mem_error::MemError;
@@ -83,6 +84,8 @@ impl MemReader {
         // It is an image exactly where the text is a memory text of it, unless memory was wanting.
         ensures found { (entry : ℕ) (bytes : List ℕ) → HasRead entry bytes self → IfOk result (λ i. IsMemoryText bytes entry i) }
         ensures only { (entry : ℕ) (bytes : List ℕ) → HasRead entry bytes self → (i : ImageView) → IsMemoryText bytes entry i → Gives (λ i. i) result (Ok i) }
+        // Otherwise it is the first byte with which something is wrong, and what that is.
+        ensures first { (entry : ℕ) (bytes : List ℕ) → HasRead entry bytes self → IfErr result (λ e. RefusesFirst entry bytes e) }
         // What it answered before it answers again.
         ensures stays { Repeats self.standing result }
     {

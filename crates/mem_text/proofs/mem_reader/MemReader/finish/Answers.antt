@@ -1,5 +1,6 @@
-use Rattle.std.proofs.Common.{Some, None}
+use Rattle.std.proofs.Common.{Some, None, Err}
 use Rattle.mem_text.proofs.Reader.{some_exact, some_only, none_exact, none_found, none_only, seen_as}
+use Rattle.mem_text.proofs.Wrong.{first_is_refused}
 use Rattle.mem_text.proofs.mem_reader.MemReader.finish.Goals as goal
 
 pub returns-in-Some-clause-exact : goal.returns-in-Some-clause-exact
@@ -26,3 +27,9 @@ pub returns-in-None-clause-only : goal.returns-in-None-clause-only
 returns-in-None-clause-only c = λ entry bytes h i t.
     none_only c.into_image.result c.self.inside.reading c.self.inside.read entry bytes i c.into_image.ensures.image
     (seen_as entry bytes c.args.self c.self.inside.read c.self.inside.reading c.self.inside.failed None c.self.view_is c.in-None.is h) t
+
+pub returns-in-Some-clause-first : goal.returns-in-Some-clause-first
+returns-in-Some-clause-first c = λ entry bytes h. first_is_refused entry bytes (λ i. i) (Err c.in-Some.error) (returns-in-Some-clause-exact c entry bytes h)
+
+pub returns-in-None-clause-first : goal.returns-in-None-clause-first
+returns-in-None-clause-first c = λ entry bytes h. first_is_refused entry bytes (λ i. i) c.into_image.result (returns-in-None-clause-exact c entry bytes h)
