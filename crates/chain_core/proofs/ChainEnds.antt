@@ -23,7 +23,7 @@ use Rattle.chain_core.specs.End.{services_within}
 use Rattle.chain_core.specs.ChainRun.{is_body, read_to}
 use Rattle.chain_moves.specs.Watched.{Watched, nothing_watched}
 use Rattle.chain_moves.specs.Beside.{Rest, board_of}
-use Rattle.chain_core.specs.Progress.{Progress}
+use Rattle.chain_core.specs.Progress.{Progress, goes, progress_at}
 use Rattle.chain_core.specs.Text.{steps_text, Cut}
 use Rattle.chain_core.specs.Rounds.{round}
 use Rattle.chain_core.specs.Chain.{chain_end, machine_run, board_after, is_whole, steps_part, report_part, is_done, StopsInSteps, Stops, AgreesWith, AgreesAtEnd, AgreesWhereDone}
@@ -34,6 +34,7 @@ use Rattle.chain_core.specs.declared.chain_end.ChainEnd.TheVariants.{Done, Budge
 use Rattle.chain_core.specs.declared.round.Round.{Round}
 use Rattle.chain_core.specs.declared.round.Round.TheVariants.{Made, Failed, Ended as RoundEnded, Spent}
 use Rattle.chain_core.proofs.Told.{text_add}
+use Rattle.chain_core.proofs.Added.{added_steps, as_cut}
 use Rattle.chain_core.proofs.Standing.{Stood, Final, AtHalt, RoundMeans}
 use Rattle.chain_core.proofs.RoundMeans.{round_means}
 use Rattle.chain_core.specs.Both.{Starts}
@@ -146,6 +147,12 @@ cut_text m es trace n p q o v rest h =
     stops_writing rest
     (same_text (sym (text_add m es trace h.k (suc more) p) ∙ ap (λ i. steps_text m es trace i p) split)
     (then_writes h.whole (stops_writing _ h.broken)))
+
+pub stopped_text : {m : Meanings} {es : List Event} {d : Dispatcher} {trace : Bool} {bound : ℕ} {b board : State} {o v : SinkView} (rest : List ℕ) → StopsInSteps m es d trace bound b board o v → Writes false o v (steps_part m es d trace bound b ++ rest)
+stopped_text {m = m} {es = es} {d = d} {trace = trace} {bound = bound} {b = b} {o = o} {v = v} rest h =
+    let n = (chain_end m es d bound b).steps in
+    same_text (ap (λ t. t ++ rest) (sym (added_steps m es trace b n)))
+    (cut_text m es trace n (progress_at m es b 0) (goes m es (h.k + 1) (progress_at m es b 0)) o v rest (as_cut m es trace b h))
 
 -- ---- from the start
 pub ends_from : {m : Meanings} {es : List Event} (sound : IsSoundDevice m) {d : Dispatcher} (bound : ℕ) {b : State} → Starts m es d b → Ends m es sound 0 d bound b

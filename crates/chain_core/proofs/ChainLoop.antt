@@ -15,7 +15,7 @@ use Rattle.chain_moves.specs.Start.{begun}
 use Rattle.chain_core.specs.ChainRun.{is_body, Read, nothing_read}
 use Rattle.chain_moves.specs.Watched.{Watched, nothing_watched}
 use Rattle.chain_core.specs.Progress.{Progress, progress_of, progress_at, HasRoom}
-use Rattle.chain_core.specs.Text.{steps_text, Cut, Tells}
+use Rattle.chain_core.specs.Text.{next_text, steps_text, Tells}
 use Rattle.chain_core.specs.Rounds.{Rounded, round, steps_made, IsMade}
 use Rattle.chain_core.specs.Chain.{chain_end, dead_in, dead_at, board_after, steps_part, is_done, StopsInSteps}
 use Rattle.chain_core.specs.declared.course.Course.{Course}
@@ -28,7 +28,8 @@ use Rattle.chain_core.proofs.Bounded.{steps_within}
 use Rattle.chain_core.proofs.BodyRuns.{starts_run}
 use Rattle.chain_moves.proofs.Watching.{begun_watched}
 use Rattle.chain_core.proofs.Told.{then_told, within_more}
-use Rattle.chain_core.proofs.Standing.{goes_at, at_most, Stood, Final, RoundMeans, Means, made_within}
+use Rattle.chain_core.proofs.Added.{added_next, from_start, added_steps}
+use Rattle.chain_core.proofs.Standing.{at_most, Stood, Final, RoundMeans, Means, made_within}
 use Rattle.chain_core.proofs.RoundMeans.{round_means}
 use Rattle.chain_core.specs.declared.chain_end.ChainEnd.TheVariants.{Done, BudgetSpent, Broken as BrokenOff}
 use Rattle.chain_core.specs.declared.round.Round.TheVariants.{Made, Failed, Ended as RoundEnded, Spent}
@@ -103,11 +104,13 @@ module _ {m : Meanings} {es : List Event} (sound : IsSoundDevice m) {d : Dispatc
           let all = then_told m es trace n (steps_made (bound - n) r.told) false (progress_at m es b 0) p q o u v told made.tells in
           let h = within_more m es trace (n + steps_made (bound - n) r.told) (chain_end m es d bound b).steps (progress_at m es b 0) q o v
           (made_within m es 0 d bound b n r.told r.progress r.watch st.within (round_means m es sound 0 d bound b p w n st)) all in
-          let e : q ≡ progress_at m es b (h.k + 1) = h.made ∙ (goes_at m es b (h.k + 1) 0 ∙ (let z : 0 + (h.k + 1) ≡ h.k + 1 = omega arith in ap (progress_at m es b) z)) in
           record {
-            k = h.k + 1;
-            board = ap (λ (q : Progress). q.board) e;
-            cut = subst (λ q. Cut m es trace (chain_end m es d bound b).steps (progress_at m es b 0) q o v) e h;
+            k = h.k;
+            early = h.early;
+            board = ap (λ (q : Progress). q.board) (h.made ∙ from_start m es trace b (h.k + 1));
+            between = h.between;
+            whole = same_text (sym (added_steps m es trace b h.k)) h.whole;
+            broken = same_text (ap (next_text m trace) (from_start m es trace b h.k) ∙ sym (added_next m es trace b h.k)) h.broken;
           }
 
       -- ---- at the end
@@ -116,7 +119,7 @@ module _ {m : Meanings} {es : List Event} (sound : IsSoundDevice m) {d : Dispatc
         ends = sym f.ends;
         stands = ap (λ (q : Progress). q.board) f.progress ∙ ap (λ (e : Ended). board_at m is_body es b e.steps) (sym f.ends);
         hides = dead;
-        told = same_text (ap (λ k. steps_text m es trace k (progress_at m es b 0)) (same ∙ sym (ap (λ (e : Ended). e.steps) f.ends))) (told_on made).1;
+        told = same_text (ap (λ k. steps_text m es trace k (progress_at m es b 0)) (same ∙ sym (ap (λ (e : Ended). e.steps) f.ends)) ∙ sym (added_steps m es trace b (chain_end m es d bound b).steps)) (told_on made).1;
       }
 
       comes_by : (t : Round) → IsMade {E = E} m es trace (bound - n) (round m es d (bound - n) p w) (Ok t) p q w' u v → RoundMeans m es 0 d bound b n t q w' → (ended : Ended) → EndsRound bound n q.bodies q.services t ended → Comes m es d trace bound b ended q.board w'.dead o v

@@ -14,6 +14,7 @@ pub mod MoveRuns
 pub mod BodyRuns
 pub mod Bounded
 pub mod Standing
+pub mod Added
 pub mod RoundsBegin
 pub mod RoundsReturn
 pub mod RoundsBody

@@ -60,7 +60,7 @@ module _ (m : Meanings) (es : List Event) where
       ∙ (ap (λ t. next_text m trace p ++ t) (text_add trace a b (gone m es p))
       ∙ sym (append_assoc (next_text m trace p) (steps_text m es trace a (gone m es p)) (steps_text m es trace b (goes m es a (gone m es p)))))
 
-  one_text : (trace : Bool) (p : Progress) → next_text m trace p ≡ steps_text m es trace 1 p
+  pub one_text : (trace : Bool) (p : Progress) → next_text m trace p ≡ steps_text m es trace 1 p
   unfolding steps_text
   one_text trace p = sym (append-nil (next_text m trace p))
 

@@ -1,6 +1,6 @@
 -- A chain: the board runs under a dispatcher, and its run ends where that of the servicing machine does.
-use Rattle.std.specs.Prelude.{◌≡◌, ◌⊎◌, ℕ, suc, Bool, true, false, List, [], ◌++◌, slice_index, slice_index_or}
-use Rattle.board_outside.specs.Sink.{SinkView}
+use Rattle.std.specs.Prelude.{◌≡◌, ◌⊎◌, ◌<◌, ℕ, suc, ◌+◌, Bool, true, false, List, [], ◌++◌, slice_index, slice_index_or}
+use Rattle.board_outside.specs.Sink.{SinkView, Writes}
 use Rattle.device_model.specs.Meanings.{Meanings}
 use Rattle.hart_report.specs.Text.{StopsAfter}
 use Rattle.hart_board.specs.State.{State}
@@ -13,8 +13,7 @@ use Rattle.chain_moves.specs.Moves.{servicing_machine}
 use Rattle.chain_moves.specs.Start.{begun}
 use Rattle.chain_core.specs.ChainRun.{is_body}
 use Rattle.chain_core.specs.End.{Ended, end_at}
-use Rattle.chain_core.specs.Progress.{progress_at}
-use Rattle.chain_core.specs.Text.{steps_text, report, Cut}
+use Rattle.chain_core.specs.Text.{added_after, added_to, report}
 use Rattle.chain_moves.specs.declared.dispatcher.Dispatcher.{Dispatcher}
 use Rattle.chain_moves.specs.declared.moves.Move.{Move}
 use Rattle.chain_core.specs.declared.chain_end.ChainEnd.{ChainEnd}
@@ -43,7 +42,7 @@ board_after m es d bound b = board_at m is_body es b (chain_end m es d bound b).
 
 -- the lines of its steps and services, and its report
 abbrev pub steps_part : Meanings → List Event → Dispatcher → Bool → ℕ → State → List ℕ
-steps_part m es d trace bound b = steps_text m es trace (chain_end m es d bound b).steps (progress_at m es b 0)
+steps_part m es d trace bound b = added_to m es trace b (chain_end m es d bound b).steps
 
 abbrev pub report_part : Meanings → List Event → Dispatcher → ℕ → State → List ℕ
 report_part m es d bound b = report m (dead_at m es bound b) (board_after m es d bound b) (chain_end m es d bound b).end (chain_end m es d bound b).steps
@@ -70,8 +69,11 @@ is_done SinkFailed = false
 -- in what a step adds: the board has made that step, and all before it was written
 pub record StopsInSteps (m : Meanings) (es : List Event) (d : Dispatcher) (trace : Bool) (bound : ℕ) (b new_board : State) (old new : SinkView) : Type 0 where
   pub k : ℕ
-  pub board : new_board ≡ board_at m is_body es b k
-  pub cut : Cut m es trace (chain_end m es d bound b).steps (progress_at m es b 0) (progress_at m es b k) old new
+  pub early : k < (chain_end m es d bound b).steps
+  pub board : new_board ≡ board_at m is_body es b (k + 1)
+  pub between : SinkView
+  pub whole : Writes true old between (added_to m es trace b k)
+  pub broken : Writes false between new (added_after m es trace b k)
 
 -- in the report: the board stands where the chain ends
 pub record StopsInReport (m : Meanings) (es : List Event) (d : Dispatcher) (trace : Bool) (bound : ℕ) (b new_board : State) (old new : SinkView) : Type 0 where

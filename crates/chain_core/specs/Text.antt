@@ -11,9 +11,11 @@ use Rattle.hart_report.specs.declared.stepped.Stepped.{Stepped}
 use Rattle.hart_report.specs.declared.stepped.Stepped.TheVariants.{Retired}
 use Rattle.hart_board.specs.State.{State}
 use Rattle.hart_board.specs.Step.{Turn, step}
+use Rattle.hart_board.specs.Steps.{board_at}
 use Rattle.hart_board.specs.declared.event.Event.{Event}
 use Rattle.chain_moves.specs.Slot.{call}
 use Rattle.chain_moves.specs.Bytes.{is_dead}
+use Rattle.chain_core.specs.ChainRun.{is_body, read_to}
 use Rattle.chain_core.specs.Progress.{Progress, gone, goes}
 use Rattle.chain_moves.specs.declared.broken.Broken.{Broken}
 use Rattle.chain_moves.specs.declared.broken.Broken.TheVariants.{CsrTouched, RegisterLost, ReadsDispatch, WritesFrame, StackBad, BadTable, NoDispatcher, HardVectored, EnteredDispatch, Exception, HaltInHandler}
@@ -65,6 +67,17 @@ pub record Cut (m : Meanings) (es : List Event) (trace : Bool) (n : ℕ) (p q : 
 abbrev pub Tells : Meanings → List Event → Bool → ℕ → Bool → Progress → Progress → SinkView → SinkView → Type 0
 Tells m es trace n true p q old new = (q ≡ goes m es n p) × Writes true old new (steps_text m es trace n p)
 Tells m es trace n false p q old new = Cut m es trace n p q old new
+
+-- ---- a chain's lines from its start
+
+-- what the step after the first k adds; the depth of a service is that of the list which is read off the steps
+unfoldable pub added_after : Meanings → List Event → Bool → State → ℕ → List ℕ
+added_after m es trace b k = turn_text trace (read_to m es b k).depth (step m (board_at m is_body es b k))
+
+-- and what the first k add
+unfoldable pub added_to : Meanings → List Event → Bool → State → ℕ → List ℕ
+added_to m es trace b zero = []
+added_to m es trace b (suc k) = added_to m es trace b k ++ added_after m es trace b k
 
 -- ---- the report
 

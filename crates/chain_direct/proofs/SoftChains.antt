@@ -27,6 +27,7 @@ use Rattle.chain_core.specs.declared.ended.Ended.{Ended}
 use Rattle.chain_core.specs.declared.chain_end.ChainEnd.TheVariants.{Broken as BrokenOff}
 use Rattle.chain_core.specs.declared.round.Round.{Round}
 use Rattle.chain_core.specs.declared.round.Round.TheVariants.{Made, Failed, Ended as RoundEnded, Spent}
+use Rattle.chain_core.proofs.Added.{added_steps}
 use Rattle.chain_core.proofs.ChainLoop.{stood_first}
 use Rattle.chain_core.proofs.Closed.{same_report}
 use Rattle.chain_core.proofs.Standing.{Stood, RoundMeans}
@@ -103,6 +104,6 @@ module _ (m : Meanings) (es : List Event) (sound : IsSoundDevice m) (d : Dispatc
       let end : direct_end m es d bound b ≡ chain_end m es d bound b = same_end m es d bound (begun m es b) soft in
       let c = chain_end m es d bound b in
       ap₂ (λ x y. x ++ y)
-      (ap (λ (e : Ended). text_to m es trace b e.steps) end ∙ soft_steps m es b trace c.steps (soft_all s))
+      (ap (λ (e : Ended). text_to m es trace b e.steps) end ∙ (soft_steps m es b trace c.steps (soft_all s) ∙ sym (added_steps m es trace b c.steps)))
       (ap (λ (e : Ended). report m (dead_in_run (direct_run m es bound b)) (board_at m is_body es b e.steps) e.end e.steps) end
       ∙ same_report m (dead_in_run (direct_run m es bound b)) (dead_at m es bound b) (board_after m es d bound b) c.end c.steps same_dead)

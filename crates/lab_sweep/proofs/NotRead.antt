@@ -1,5 +1,5 @@
 -- What is kept of a board is no part of what a chain does: a step, and the text of a chain, are the same whatever is kept.
-use Rattle.std.proofs.Common.{◌≡◌, ℕ, zero, suc, ◌+◌, ◌%◌, ◌==◌, Bool, true, false, List, [], ◌∷◌, ◌++◌, length, Option, Some, None, Result, Ok, Err, refl, ap, ap₂, ◌∙◌}
+use Rattle.std.proofs.Common.{◌≡◌, ℕ, zero, suc, ◌+◌, ◌%◌, ◌==◌, Bool, true, false, List, [], ◌∷◌, ◌++◌, length, Option, Some, None, Result, Ok, Err, refl, sym, ap, ap₂, ◌∙◌}
 use Rattle.hart_words.specs.TwosComplement.{word}
 use Rattle.device_model.specs.Meanings.{Meanings}
 use Rattle.rv_encoding.specs.declared.instruction.Ins.{Ins}
@@ -47,7 +47,7 @@ use Rattle.chain_moves.specs.declared.dispatcher.Dispatcher.{Dispatcher}
 use Rattle.chain_core.specs.ChainRun.{is_body, Read, read_at, read_by, read_to}
 use Rattle.chain_core.specs.Progress.{Progress, counted, counted_by, gone_by, gone, progress_at}
 use Rattle.hart_report.specs.Ends.{steps_line}
-use Rattle.chain_core.specs.Text.{call_text, service_text, turn_text, next_text, steps_text, end_line, board_part, done_part, report}
+use Rattle.chain_core.specs.Text.{call_text, service_text, turn_text, next_text, steps_text, added_to, end_line, board_part, done_part, report}
 use Rattle.chain_core.specs.declared.ended.Ended.{Ended}
 use Rattle.chain_core.specs.End.{end_at}
 use Rattle.chain_core.specs.Chain.{chain_end, chain_text, dead_in, dead_at, steps_part, report_part}
@@ -57,6 +57,7 @@ use Rattle.chain_direct.specs.Directed.{beside_none}
 use Rattle.chain_direct.specs.DirectMoves.{direct_machine}
 use Rattle.chain_direct.specs.DirectRun.{is_vectored, called, entered_directly, begins_by, begins, begins_after}
 use Rattle.chain_direct.specs.DirectText.{listed_lines, text_after, text_to, direct_end, direct_run, dead_in_run, direct_report, direct_text}
+use Rattle.chain_core.proofs.Added.{added_steps}
 
 module _ (m : Meanings) (k : List Moment) where
   -- the same state, of which these are kept
@@ -302,8 +303,11 @@ module _ (m : Meanings) (k : List Moment) where
 
     part_same : steps_part m es d trace bound (keeping b) ≡ steps_part m es d trace bound b
     part_same =
-        ap₂ (λ (e : Ended) (p : Progress). steps_text m es trace e.steps p) end_same progress_same
-        ∙ steps_same es trace (chain_end m es d bound b).steps (progress_at m es b 0)
+        let n = (chain_end m es d bound b).steps in
+        ap (λ (e : Ended). added_to m es trace (keeping b) e.steps) end_same
+        ∙ (added_steps m es trace (keeping b) n
+        ∙ (ap (steps_text m es trace n) progress_same
+        ∙ (steps_same es trace n (progress_at m es b 0) ∙ sym (added_steps m es trace b n))))
 
     told_same : report_part m es d bound (keeping b) ≡ report_part m es d bound b
     told_same =

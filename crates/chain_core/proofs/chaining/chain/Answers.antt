@@ -1,6 +1,6 @@
 use Rattle.chain_core.specs.Chain.{StopsInSteps}
 use Rattle.chain_core.proofs.Closed.{closed_end, closed_text, closed_stopped, closed_there}
-use Rattle.chain_core.proofs.ChainEnds.{never_failed, services_from, goes_from, state_from, stops_by, kept_after, cut_text}
+use Rattle.chain_core.proofs.ChainEnds.{never_failed, services_from, goes_from, state_from, stops_by, kept_after, stopped_text}
 use Rattle.chain_core.proofs.chaining.chain.Goals as goal
 
 pub returns-clause-end : goal.returns-clause-end
@@ -9,7 +9,7 @@ returns-clause-end g c = closed_end g.D.Device.means _ _ _ _ _ _ _ _ _ _ c.advan
 pub returns-clause-text : goal.returns-clause-text
 returns-clause-text g c =
     let m = g.D.Device.means in
-    closed_text m _ _ _ _ _ _ _ _ _ _ (never_failed g.met.D.Device.sound c.args.bound c.can_start.ensures) _ c.advance-rounds.result c.advance-rounds.ensures.ended c.advance-rounds.ensures.stopped (λ s. cut_text m c.args.events.now.list c.args.trace _ _ _ _ _ _ s.cut) c.close.ensures
+    closed_text m _ _ _ _ _ _ _ _ _ _ (never_failed g.met.D.Device.sound c.args.bound c.can_start.ensures) _ c.advance-rounds.result c.advance-rounds.ensures.ended c.advance-rounds.ensures.stopped (λ s. stopped_text _ s) c.close.ensures
 
 pub returns-clause-stopped : goal.returns-clause-stopped
 returns-clause-stopped g c =
