@@ -1,4 +1,5 @@
 pub mod FourMoves
+pub mod NoneHard
 pub mod NothingDirect
 pub mod DirectCosts
 pub mod DirectBothRuns

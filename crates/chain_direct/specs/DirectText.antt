@@ -1,5 +1,5 @@
 -- What a chain with direct services writes, and how it ends.
-use Rattle.std.specs.Prelude.{ℕ, zero, suc, Bool, true, false, List, [], ◌∷◌, ◌++◌, codes}
+use Rattle.std.specs.Prelude.{◌≡◌, ℕ, zero, suc, Bool, true, false, List, [], ◌∷◌, ◌++◌, codes}
 use Rattle.device_model.specs.Meanings.{Meanings}
 use Rattle.hart_report.specs.Trace.{step_text}
 use Rattle.hart_board.specs.State.{State}
@@ -13,6 +13,8 @@ use Rattle.chain_core.specs.declared.ended.Ended.{Ended}
 use Rattle.chain_core.specs.Text.{begun_line, service_line, report}
 use Rattle.chain_core.specs.ChainRun.{is_body}
 use Rattle.chain_moves.specs.declared.dispatcher.Dispatcher.{Dispatcher}
+use Rattle.chain_moves.specs.declared.broken.Broken.TheVariants.{HardVectored}
+use Rattle.chain_core.specs.declared.chain_end.ChainEnd.TheVariants.{Broken as BrokenOff}
 use Rattle.chain_direct.specs.Kind.{Kind}
 use Rattle.chain_direct.specs.Directed.{Listed, Directed}
 use Rattle.chain_direct.specs.DirectMoves.{direct_machine, direct_start}
@@ -49,6 +51,10 @@ text_to m es trace b (suc k) = text_to m es trace b k ++ text_after m es trace b
 -- how it ends, and after how many steps of the board: as the machine that starts from the board
 abbrev pub direct_end : Meanings → List Event → Dispatcher → ℕ → State → Ended
 direct_end m es d bound b = end_at (direct_machine m es) d bound (direct_start m es b)
+
+-- no chain ends since its top is hardware-vectored
+abbrev pub NeverHardVectored : Meanings → Type 0
+NeverHardVectored m = (es : List Event) (d : Dispatcher) (bound : ℕ) (b : State) (n : ℕ) → (direct_end m es d bound b).end ≡ BrokenOff HardVectored n → ⊥
 
 -- the machine's moves as far as the bound reaches
 abbrev pub direct_run : Meanings → List Event → ℕ → State → Run Kind Directed

@@ -18,7 +18,7 @@ ghost use Rattle.chain_moves.specs.Beside.{Rest, board_of};
 ghost use Rattle.chain_moves.specs.Related.{Related};
 ghost use Rattle.chain_moves.specs.Watched.{watched_of};
 ghost use Rattle.chain_moves.specs.Slot.{base, slot_end};
-ghost use Rattle.chain_moves.specs.Machine.{Before, Within, After, Makes, Breaks, Ends};
+ghost use Rattle.chain_moves.specs.Machine.{When, Before, Within, After, Makes, Breaks, Ends};
 ghost use Rattle.chain_moves.specs.Run.{Made, On, run_to, after_moves, Leads, IsRun};
 ghost use Rattle.chain_moves.specs.Cost.{cost};
 ghost use Rattle.chain_core.specs.Counts.{counts};
@@ -36,7 +36,7 @@ ghost use Rattle.chain_direct.specs.Directed.{Direct, Directed};
 ghost use Rattle.chain_direct.specs.DirectMoves.{begin_tests, vectored, direct_move, direct_machine};
 ghost use Rattle.chain_direct.specs.DirectKinds.{IsDirectMove};
 ghost use Rattle.chain_direct.specs.DirectCounts.{as_moves, begins_in};
-ghost use Rattle.chain_direct.specs.DirectText.{direct_end, direct_text};
+ghost use Rattle.chain_direct.specs.DirectText.{direct_end, direct_text, NeverHardVectored};
 ghost use Rattle.chain_direct.specs.DirectBeside.{direct_board_of, rest_returned};
 ghost use Rattle.chain_direct.specs.DirectRelated.{DirectRelated};
 ghost use Rattle.chain_direct.specs.DirectJudge.{judge_direct_body};
@@ -79,6 +79,12 @@ pub fn a_run_ends_so<D: Device>()
 /// The services within a bound are those after the last moves that the bound reaches to.
 pub fn services_are_listed<D: Device>()
     ensures { (es : List Event) (d : Dispatcher) (bound : ℕ) (s : Directed) → IsListed (direct_machine D.means es) d bound s (services_within (direct_machine D.means es) d bound s) }
+{}
+
+/// With direct services no move is refused since its top is hardware-vectored, and no chain ends so.
+pub fn no_end_is_hard_vectored<D: Device>()
+    ensures breaks { (es : List Event) (s : Directed) (when : When) (n : ℕ) → direct_move D.means es s ≡ Breaks when HardVectored n → ⊥ }
+    ensures end { NeverHardVectored D.means }
 {}
 
 /// Where a chain without direct services doesn't end at a hardware-vectored top, it ends with them as it
