@@ -1,5 +1,5 @@
 -- What a chain writes: the lines of its steps, a line for each service, and the report.
-use Rattle.std.specs.Prelude.{◌≡◌, ◌<◌, ℕ, zero, suc, ◌+◌, ◌==◌, Bool, true, false, List, [], ◌++◌, Option, Some, None, codes}
+use Rattle.std.specs.Prelude.{◌≡◌, ◌<◌, ℕ, zero, suc, ◌+◌, ◌==◌, Bool, true, false, List, [], ◌∷◌, ◌++◌, Option, Some, None, codes}
 use Rattle.board_outside.specs.Sink.{SinkView, Writes}
 use Rattle.hart_words.specs.Decimal.{decimal}
 use Rattle.device_model.specs.Meanings.{Meanings}
@@ -15,6 +15,7 @@ use Rattle.hart_board.specs.Steps.{board_at}
 use Rattle.hart_board.specs.declared.event.Event.{Event}
 use Rattle.chain_moves.specs.Slot.{call}
 use Rattle.chain_moves.specs.Bytes.{is_dead}
+use Rattle.chain_moves.specs.Servicing.{Service}
 use Rattle.chain_core.specs.ChainRun.{is_body, read_to}
 use Rattle.chain_core.specs.Progress.{Progress, gone, goes}
 use Rattle.chain_moves.specs.declared.broken.Broken.{Broken}
@@ -31,6 +32,11 @@ begun_line mark number level depth = mark ++ decimal number ++ codes " " ++ deci
 -- a chained one
 unfoldable pub service_line : ℕ → ℕ → ℕ → List ℕ
 service_line number level depth = begun_line (codes "s ") number level depth
+
+-- and of some
+unfoldable pub service_lines : List Service → List ℕ
+service_lines [] = []
+service_lines (e ∷ es) = service_line e.number e.level e.depth ++ service_lines es
 
 -- the line of the service that begins with a step: with the dispatcher's call
 abbrev pub call_text : ℕ → State → Bool → List ℕ

@@ -1,5 +1,5 @@
 // What holds of the servicing machine, for every device and all events.
-ghost use Rattle.std.specs.Prelude.{◌≡◌, ℕ, ◌+◌, ◌-◌, ◌*◌, ◌^◌, ◌<◌, ◌≤◌, List, [], ◌∷◌, length};
+ghost use Rattle.std.specs.Prelude.{◌≡◌, ℕ, ◌+◌, ◌-◌, ◌*◌, ◌^◌, ◌<◌, ◌≤◌, false, List, [], ◌∷◌, length};
 ghost use Rattle.hart_words.specs.Registers.{register};
 ghost use Rattle.hart_board.specs.State.{State};
 ghost use Rattle.hart_board.specs.Valid.{IsBoard};
@@ -20,6 +20,8 @@ ghost use Rattle.chain_moves.specs.Moves.{move, servicing_machine};
 ghost use Rattle.chain_moves.specs.Kinds.{IsMove, LeavesAlone, GivesBack};
 ghost use Rattle.chain_moves.specs.Nesting.{AreRising, AreApart};
 ghost use Rattle.chain_moves.specs.Start.{with_slot, begun};
+ghost use Rattle.chain_core.specs.ChainRun.{read_to};
+ghost use Rattle.chain_core.specs.Text.{service_lines, added_to};
 ghost use Rattle.chain_core.specs.Chain.{chain_end};
 ghost use Rattle.chain_core.specs.Both.{with_slot_bytes, Starts, BothAgree};
 ghost use Rattle.chain_core.specs.Example.{nothing, halted, start, at_ecall, in_handler, events, shown};
@@ -88,6 +90,12 @@ pub fn a_run_ends_so<D: Device>()
 /// The services within a bound are those after the last moves that the bound reaches to.
 pub fn services_are_listed<D: Device>()
     ensures { (es : List Event) (d : Dispatcher) (bound : ℕ) (s : Servicing) → IsListed (servicing_machine D.means es) d bound s (services_within (servicing_machine D.means es) d bound s) }
+{}
+
+/// Without a trace, the lines of a chain before its report are those of the services that are read off
+/// the board's steps, in their order.
+pub fn lines_are_of_listed_services<D: Device>()
+    ensures { (es : List Event) (b : State) (n : ℕ) → added_to D.means es false b n ≡ service_lines (read_to D.means es b n).services }
 {}
 
 /// Where a board is valid, so is the hart of the machine that starts from it, and it stays so along a
