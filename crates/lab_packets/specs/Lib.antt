@@ -1,2 +1,5 @@
 pub mod Digits
 pub mod Frames
+pub mod Numbers
+pub mod Packets
+pub mod Commands

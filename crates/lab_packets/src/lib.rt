@@ -1,15 +1,27 @@
 // gdb's remote protocol: frames, packets and answers. It knows no board.
 #![tactic(auto)]
 
+mod command;
+mod commands;
 mod digits;
 mod frame_place;
 mod frame_reader;
 mod frames;
 mod heard;
 pub mod laws;
+mod numbers;
+mod packet;
+mod packets;
+mod point;
+mod texts;
 
+pub use command::Command;
+pub use commands::command_of;
 pub use digits::{byte_of, bytes_of, put_digits};
 pub use frame_place::FramePlace;
 pub use frame_reader::{FrameReader, MOST_DATA};
 pub use frames::put_frame;
 pub use heard::Heard;
+pub use packet::Packet;
+pub use packets::packet_of;
+pub use point::Point;
