@@ -1,3 +1,4 @@
 pub mod Pairs
 pub mod Onward
 pub mod FrameLaw
+pub mod HexText

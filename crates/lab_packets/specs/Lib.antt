@@ -3,3 +3,4 @@ pub mod Frames
 pub mod Numbers
 pub mod Packets
 pub mod Commands
+pub mod Answers

@@ -1,5 +1,5 @@
 // Bytes as two hexadecimal digits.
-ghost use Rattle.std.specs.Prelude.{◌≡◌, ◌++◌, ◌≤◌, false, length, drop, IfOk, OnOk};
+ghost use Rattle.std.specs.Prelude.{◌≡◌, ◌++◌, ◌∷◌, [], ◌≤◌, false, length, drop, IfOk, OnOk};
 ghost use Rattle.std.specs.Char.{digit_value};
 ghost use Rattle.std.specs.Fmt.{digit_glyph};
 ghost use Rattle.lab_packets.specs.Digits.{byte_of, bytes_of, byte_digits, bytes_digits};
@@ -72,6 +72,14 @@ fn digit(v: u8) -> u8
     ensures { result ≡ digit_glyph false v }
 {
     DIGITS[usize::from(v)]
+}
+
+/// Adds the digit of a number below 16.
+pub(crate) fn put_digit(text: &mut Text, v: u8) -> Result<(), WantOfMemory>
+    requires { v ≤ 15 }
+    ensures { OnOk result (text.new ≡ text.old ++ digit_glyph false v ∷ []) }
+{
+    text.push_bytes(&[digit(v)])
 }
 
 /// Adds two digits for a byte.

@@ -1,6 +1,7 @@
 // gdb's remote protocol: frames, packets and answers. It knows no board.
 #![tactic(auto)]
 
+mod answers;
 mod command;
 mod commands;
 mod digits;
@@ -13,8 +14,14 @@ mod numbers;
 mod packet;
 mod packets;
 mod point;
+mod reply;
+mod stop;
+mod target;
 mod texts;
 
+pub use answers::{
+    put_console_frames, put_help, put_no_such, put_stop, put_stop_note, put_word, put_words,
+};
 pub use command::Command;
 pub use commands::command_of;
 pub use digits::{byte_of, bytes_of, put_digits};
@@ -25,3 +32,6 @@ pub use heard::Heard;
 pub use packet::Packet;
 pub use packets::packet_of;
 pub use point::Point;
+pub use reply::Reply;
+pub use stop::Stop;
+pub use target::{put_piece, target_text};

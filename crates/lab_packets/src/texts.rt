@@ -1,5 +1,5 @@
 // Places in texts.
-ghost use Rattle.std.specs.Prelude.{◌≡◌, ◌≤◌, drop, length, slice_index};
+ghost use Rattle.std.specs.Prelude.{◌≡◌, drop, slice_index, take};
 
 /// The first byte, and 0 where there is none.
 pub(crate) fn first_of(text: &[u8]) -> u8
@@ -16,5 +16,16 @@ pub(crate) fn behind(text: &[u8], count: usize) -> &[u8]
         &text[count..]
     } else {
         &[]
+    }
+}
+
+/// So many bytes of a text at most, from its front.
+pub(crate) fn front_of(text: &[u8], count: usize) -> &[u8]
+    ensures { result.now ≡ take count text.now }
+{
+    if count <= text.len() {
+        &text[..count]
+    } else {
+        text
     }
 }
