@@ -12,15 +12,15 @@ use Rattle.lab_packets.specs.declared.frame_place.FramePlace.TheVariants.{Betwee
 use Rattle.lab_packets.specs.declared.heard.Heard.TheVariants.{Nothing, Packet}
 use Rattle.lab_packets.proofs.Onward.{reached_both, messages_both}
 
-abbrev at_place : FramePlace → List ℕ → Hearing
+abbrev pub at_place : FramePlace → List ℕ → Hearing
 at_place p content = record { place = p; content = content; is_long = false }
 
-abbrev silent : Hearing → Told
+abbrev pub silent : Hearing → Told
 silent h = record { heard = Nothing; next = h }
 
-begin_step : (h : Hearing) → after h 36 ≡ silent begun
+pub begin_step : (h : Hearing) → after h 36 ≡ silent begun
 unfolding after
-begin_step h = refl
+pub begin_step h = refl
 
 data_step : (content : List ℕ) (b : ℕ) → may_stand b ≡ true → length content < most_data → after (at_place InData content) b ≡ silent (at_place InData (content ++ b ∷ []))
 unfolding after
@@ -44,9 +44,9 @@ second_step content x y e = rw e refl
 
 -- ---- data
 
-data_reached : (content bytes : List ℕ) → are_data bytes ≡ true → length content + length bytes ≤ most_data → reached (at_place InData content) bytes ≡ at_place InData (content ++ bytes)
-data_reached content [] e l = ap (at_place InData) (sym (append-nil content))
-data_reached content (b ∷ bytes) e l =
+pub data_reached : (content bytes : List ℕ) → are_data bytes ≡ true → length content + length bytes ≤ most_data → reached (at_place InData content) bytes ≡ at_place InData (content ++ bytes)
+pub data_reached content [] e l = ap (at_place InData) (sym (append-nil content))
+pub data_reached content (b ∷ bytes) e l =
     let parts = and_parts (may_stand b) (are_data bytes) e in
     let more : length (content ++ b ∷ []) + length bytes ≤ most_data = omega (arith, length-append content (b ∷ [])) in
     ap (λ (t : Told). reached t.next bytes) (data_step content b parts.0 (omega arith))

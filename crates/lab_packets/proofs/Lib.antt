@@ -2,3 +2,4 @@ pub mod Pairs
 pub mod Onward
 pub mod FrameLaw
 pub mod HexText
+pub mod Unescaped

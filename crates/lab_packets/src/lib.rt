@@ -17,6 +17,8 @@ mod point;
 mod reply;
 mod stop;
 mod target;
+#[cfg(test)]
+mod tests;
 mod texts;
 
 pub use answers::{
