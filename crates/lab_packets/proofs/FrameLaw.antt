@@ -20,7 +20,7 @@ silent h = record { heard = Nothing; next = h }
 
 pub begin_step : (h : Hearing) → after h 36 ≡ silent begun
 unfolding after
-pub begin_step h = refl
+begin_step h = refl
 
 data_step : (content : List ℕ) (b : ℕ) → may_stand b ≡ true → length content < most_data → after (at_place InData content) b ≡ silent (at_place InData (content ++ b ∷ []))
 unfolding after
@@ -45,8 +45,8 @@ second_step content x y e = rw e refl
 -- ---- data
 
 pub data_reached : (content bytes : List ℕ) → are_data bytes ≡ true → length content + length bytes ≤ most_data → reached (at_place InData content) bytes ≡ at_place InData (content ++ bytes)
-pub data_reached content [] e l = ap (at_place InData) (sym (append-nil content))
-pub data_reached content (b ∷ bytes) e l =
+data_reached content [] e l = ap (at_place InData) (sym (append-nil content))
+data_reached content (b ∷ bytes) e l =
     let parts = and_parts (may_stand b) (are_data bytes) e in
     let more : length (content ++ b ∷ []) + length bytes ≤ most_data = omega (arith, length-append content (b ∷ [])) in
     ap (λ (t : Told). reached t.next bytes) (data_step content b parts.0 (omega arith))

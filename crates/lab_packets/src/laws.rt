@@ -2,7 +2,8 @@
 ghost use Rattle.std.specs.Prelude.{◌≡◌, ◌≤◌, ◌<◌, ◌^◌, ℕ, List, [], ◌∷◌, length, true};
 ghost use Rattle.std.specs.List.{All};
 ghost use Rattle.lab_packets.specs.Digits.{bytes_digits};
-ghost use Rattle.lab_packets.specs.Frames.{Hearing, Whole, are_data, most_data, framed, messages};
+ghost use Rattle.lab_packets.specs.Frames.{Hearing, Whole, are_data, most_data, framed, messages, unread};
+ghost use Rattle.lab_packets.specs.Stream.{Item, AreItemsOf, items_messages};
 ghost use Rattle.lab_packets.specs.Answers.{are_unescaped, reply_data, words_digits, console_data, stop_data, target_text, text_piece};
 ghost use Rattle.lab_packets.specs.declared.reply.Reply.{Reply};
 ghost use Rattle.lab_packets.specs.declared.stop.Stop.{Stop};
@@ -21,4 +22,9 @@ pub fn answers_need_no_escape()
     ensures stops { (s : Stop) → are_unescaped (stop_data s) ≡ true }
     ensures features { (offset count : ℕ) → are_unescaped (text_piece target_text offset count) ≡ true }
     ensures read { (h : Hearing) (bytes : List ℕ) → are_unescaped bytes ≡ true → length bytes ≤ most_data → messages h (framed bytes) ≡ Whole bytes ∷ [] }
+{}
+
+/// Bytes that are these items tell what the items tell.
+pub fn streams_are_read()
+    ensures { (bytes : List ℕ) (items : List Item) → AreItemsOf bytes items → messages unread bytes ≡ items_messages items }
 {}
