@@ -1,15 +1,15 @@
 -- A frame around data is read as that packet, wherever reading stood.
-use Rattle.std.proofs.Common.{◌≡◌, ℕ, ◌+◌, ◌*◌, ◌/◌, ◌%◌, ◌<◌, ◌≤◌, List, [], ◌∷◌, ◌++◌, append_assoc, append-nil, length, length-append, Bool, true, false, Option, Some, None, refl, sym, ap, ◌∙◌, arith}
-use Rattle.std.specs.Prelude.{◌==◌, ◌&&◌, nat_lt, not}
+use Rattle.std.proofs.Common.{◌≡◌, ℕ, ◌+◌, ◌*◌, ◌/◌, ◌%◌, ◌<◌, ◌≤◌, List, [], ◌∷◌, ◌++◌, append_assoc, append-nil, length, length-append, true, false, Some, refl, sym, ap, ◌∙◌, arith}
+use Rattle.std.specs.Prelude.{◌==◌, not}
 use Rattle.std.specs.Char.{digit_value}
 use Rattle.std.specs.Fmt.{digit_glyph}
 use Rattle.std.proofs.lemmas.Bool.{lt-ltb, eq-eqb, and_parts}
 use Rattle.std.proofs.lemmas.Bool.Decides.{nat_tests}
 use Rattle.lab_packets.specs.Digits.{byte_of, byte_digits}
-use Rattle.lab_packets.specs.Frames.{Hearing, Told, most_data, may_stand, are_data, begun, after, after_other, verdict, is_sum, is_some_of, checksum, summed, reached, messages, told_message, Whole, framed, Message}
+use Rattle.lab_packets.specs.Frames.{Hearing, Told, most_data, may_stand, are_data, begun, after, verdict, is_sum, checksum, summed, reached, messages, told_message, Whole, framed}
 use Rattle.lab_packets.specs.declared.frame_place.FramePlace.{FramePlace}
 use Rattle.lab_packets.specs.declared.frame_place.FramePlace.TheVariants.{Between, InData, FirstDigit, SecondDigit}
-use Rattle.lab_packets.specs.declared.heard.Heard.TheVariants.{Nothing, Packet}
+use Rattle.lab_packets.specs.declared.heard.Heard.TheVariants.{Nothing}
 use Rattle.lab_packets.proofs.Onward.{reached_both, messages_both}
 
 abbrev pub at_place : FramePlace → List ℕ → Hearing

@@ -1,16 +1,15 @@
 -- Reading the text of items tells what they tell: one induction over items, with one over data in it.
 use Rattle.std.proofs.Common.{◌≡◌, ℕ, suc, ◌+◌, ◌<◌, ◌≤◌, List, [], ◌∷◌, ◌++◌, append_assoc, append-nil, length, length-append, Bool, true, false, cond, refl, sym, ap, ◌∙◌, arith}
 use Rattle.std.specs.Prelude.{◌==◌, ◌&&◌, nat_lt, nat_le, not}
-use Rattle.std.proofs.lemmas.Bool.{lt-ltb, le-ltb, le-leb, and_parts}
+use Rattle.std.proofs.lemmas.Bool.{lt-ltb, and_parts}
 use Rattle.std.proofs.lemmas.Bool.Decides.{nat_tests}
-use Rattle.lab_packets.specs.Frames.{Hearing, Told, most_data, may_stand, are_data, unread, begun, after, is_sum, reached, messages, told_message, message_of, verdict, Message, Whole, Refused, AskedAgain}
-use Rattle.lab_packets.specs.Stream.{Item, Passed, Begun, Frame, item_text, items_text, is_no_dollar, is_open_end, is_open, IsItem, gives_up, may_precede, AreItems, item_messages, items_messages}
+use Rattle.lab_packets.specs.Frames.{Hearing, Told, most_data, may_stand, are_data, begun, after, is_sum, reached, messages, told_message, message_of, verdict, Message, Whole, Refused, AskedAgain}
+use Rattle.lab_packets.specs.Stream.{Item, Passed, Begun, Frame, item_text, items_text, is_no_dollar, is_open_end, is_open, gives_up, AreItems, item_messages, items_messages}
 use Rattle.lab_packets.specs.declared.frame_place.FramePlace.{FramePlace}
 use Rattle.lab_packets.specs.declared.frame_place.FramePlace.TheVariants.{Between, InData, FirstDigit, SecondDigit}
-use Rattle.lab_packets.specs.declared.heard.Heard.{Heard}
 use Rattle.lab_packets.specs.declared.heard.Heard.TheVariants.{Nothing, Again, Bad, Packet}
 use Rattle.lab_packets.proofs.Onward.{reached_both, messages_both}
-use Rattle.lab_packets.proofs.FrameLaw.{at_place, silent, begin_step, data_reached}
+use Rattle.lab_packets.proofs.FrameLaw.{silent, begin_step}
 
 abbrev held : FramePlace → List ℕ → Bool → Hearing
 held p content long = record { place = p; content = content; is_long = long }

@@ -1,14 +1,14 @@
 -- Answers have none of the bytes that would have to be escaped.
-use Rattle.std.proofs.Common.{◌≡◌, ℕ, zero, suc, ◌+◌, ◌-◌, ◌/◌, ◌%◌, ◌<◌, ◌≤◌, ◌^◌, List, [], ◌∷◌, ◌++◌, take, drop, min, length, Bool, true, false, cond, codes, refl, ◌∙◌, arith}
-use Rattle.std.specs.Prelude.{◌==◌, ◌&&◌, nat_lt, not}
-use Rattle.std.specs.List.{All, list_all}
+use Rattle.std.proofs.Common.{◌≡◌, ℕ, zero, suc, ◌+◌, ◌-◌, ◌/◌, ◌%◌, ◌<◌, ◌^◌, List, [], ◌∷◌, ◌++◌, take, drop, min, length, Bool, true, false, cond, codes, refl, ◌∙◌, arith}
+use Rattle.std.specs.Prelude.{◌&&◌, nat_lt}
+use Rattle.std.specs.List.{All}
 use Rattle.std.specs.Fmt.{digit_glyph}
 use Rattle.std.proofs.lemmas.Bool.{and_parts}
 use Rattle.std.proofs.lemmas.Bool.Decides.{nat_tests}
 use Rattle.std.proofs.lemmas.List.Folds.{list_all-append}
 use Rattle.lab_packets.specs.Digits.{byte_digits, bytes_digits}
 use Rattle.lab_packets.specs.Frames.{most_data, may_stand, are_data}
-use Rattle.lab_packets.specs.Answers.{reply_data, word_digits, words_digits, console_data, hex_upto, stop_data, target_text, text_piece, lettered_piece, is_unescaped, are_unescaped}
+use Rattle.lab_packets.specs.Answers.{reply_data, word_digits, words_digits, console_data, hex_upto, stop_data, target_text, text_piece, is_unescaped, are_unescaped}
 use Rattle.lab_packets.specs.declared.reply.Reply.{Reply}
 use Rattle.lab_packets.specs.declared.reply.Reply.TheVariants.{Supports, Done, Refuses, NoFile, Empty}
 use Rattle.lab_packets.specs.declared.stop.Stop.{Stop}

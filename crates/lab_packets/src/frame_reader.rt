@@ -16,7 +16,7 @@ pub const MOST_DATA: usize = 16_384;
 #[derive(Drop)]
 pub struct FrameReader {
     place: FramePlace,
-    data: Vec<u8>,
+    content: Vec<u8>,
     is_long: bool,
 }
 
@@ -27,9 +27,9 @@ impl Model for FrameReader {
 
     ghost Value = { Hearing };
 
-    ghost view = { λ r. record { place = r.place; content = r.data.items; is_long = r.is_long } };
+    ghost view = { λ r. record { place = r.place; content = r.content.items; is_long = r.is_long } };
 
-    ghost invariant = { λ r. (vec_len r.data ≤ most_data) × (most_data ≤ vec_capacity r.data) };
+    ghost invariant = { λ r. (vec_len r.content ≤ most_data) × (most_data ≤ vec_capacity r.content) };
 }
 
 impl FrameReader {
@@ -40,7 +40,7 @@ impl FrameReader {
     {
         Ok(FrameReader {
             place: FramePlace::Between,
-            data: Vec::with_capacity(alloc, MOST_DATA)?,
+            content: Vec::with_capacity(alloc, MOST_DATA)?,
             is_long: false,
         })
     }
@@ -49,22 +49,22 @@ impl FrameReader {
     pub fn data(&self) -> &[u8]
         ensures { result.now ≡ self.now.content }
     {
-        &self.data
+        &self.content
     }
 
     fn begin(&mut self)
         ensures { self.new ≡ begun }
     {
         self.place = FramePlace::InData;
-        self.data.clear();
+        self.content.clear();
         self.is_long = false;
     }
 
     fn push(&mut self, byte: u8)
         ensures { self.new ≡ with_data self.old byte }
     {
-        if self.data.len() < MOST_DATA {
-            let _ = self.data.push(byte);
+        if self.content.len() < MOST_DATA {
+            let _ = self.content.push(byte);
         } else {
             self.is_long = true;
         }
@@ -73,7 +73,7 @@ impl FrameReader {
     fn verdict(&self, first: u8, second: u8) -> Heard
         ensures { result ≡ verdict self.now first second }
     {
-        if !self.is_long && is_sum(&self.data, first, second) {
+        if !self.is_long && is_sum(&self.content, first, second) {
             Heard::Packet
         } else {
             Heard::Bad

@@ -1,10 +1,11 @@
 // Laws that the definitions meet. Each is the contract of a function that does nothing.
-ghost use Rattle.std.specs.Prelude.{◌≡◌, ◌≤◌, ◌<◌, ◌^◌, ℕ, List, [], ◌∷◌, length, true};
+ghost use Rattle.std.specs.Prelude.{◌≡◌, ◌≤◌, ◌<◌, ◌^◌, ℕ, List, [], ◌∷◌, length, true, Some};
 ghost use Rattle.std.specs.List.{All};
-ghost use Rattle.lab_packets.specs.Digits.{bytes_digits};
+ghost use Rattle.lab_packets.specs.Digits.{bytes_digits, bytes_of};
+ghost use Rattle.lab_packets.specs.Numbers.{word_of};
 ghost use Rattle.lab_packets.specs.Frames.{Hearing, Whole, are_data, most_data, framed, messages, unread};
 ghost use Rattle.lab_packets.specs.Stream.{Item, AreItemsOf, items_messages};
-ghost use Rattle.lab_packets.specs.Answers.{are_unescaped, reply_data, words_digits, console_data, stop_data, target_text, text_piece};
+ghost use Rattle.lab_packets.specs.Answers.{are_unescaped, reply_data, word_digits, words_digits, console_data, stop_data, target_text, text_piece};
 ghost use Rattle.lab_packets.specs.declared.reply.Reply.{Reply};
 ghost use Rattle.lab_packets.specs.declared.stop.Stop.{Stop};
 
@@ -24,7 +25,15 @@ pub fn answers_need_no_escape()
     ensures read { (h : Hearing) (bytes : List ℕ) → are_unescaped bytes ≡ true → length bytes ≤ most_data → messages h (framed bytes) ≡ Whole bytes ∷ [] }
 {}
 
-/// Bytes that are these items tell what the items tell.
+/// All bytes are passed-over bytes, packets that were given up, and frames, one after the other; and what is read of them is
+/// what these tell.
 pub fn streams_are_read()
-    ensures { (bytes : List ℕ) (items : List Item) → AreItemsOf bytes items → messages unread bytes ≡ items_messages items }
+    ensures some { (bytes : List ℕ) → (items : List Item) × AreItemsOf bytes items }
+    ensures told { (bytes : List ℕ) (items : List Item) → AreItemsOf bytes items → messages unread bytes ≡ items_messages items }
+{}
+
+/// Bytes and words that are written as digits are read again.
+pub fn digits_are_read()
+    ensures bytes { (bytes : List ℕ) → All (λ b. b < 256) bytes → bytes_of (bytes_digits bytes) ≡ Some bytes }
+    ensures word { (word : ℕ) → word < 2 ^ 32 → word_of (word_digits word) ≡ Some word }
 {}

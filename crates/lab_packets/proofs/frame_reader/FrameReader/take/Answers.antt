@@ -1,4 +1,3 @@
-use Rattle.std.proofs.Common.{ℕ}
 use Rattle.lab_packets.proofs.Onward.{taken_read, taken_messages}
 use Rattle.lab_packets.proofs.frame_reader.FrameReader.take.Goals as goal
 
