@@ -39,5 +39,5 @@ pub word_again : (v : ℕ) → v < 2 ^ 32 → word_of (word_digits v) ≡ Some v
 word_again v h =
     digits_word v
     ∙ four (v % 0x100) (v / 0x100 % 0x100) (v / 0x1_0000 % 0x100) (v / 0x100_0000)
-      (byte_again (v % 0x100) (omega arith)) (byte_again (v / 0x100 % 0x100) (omega arith)) (byte_again (v / 0x1_0000 % 0x100) (omega arith)) (byte_again (v / 0x100_0000) (omega arith))
+    (byte_again (v % 0x100) (omega arith)) (byte_again (v / 0x100 % 0x100) (omega arith)) (byte_again (v / 0x1_0000 % 0x100) (omega arith)) (byte_again (v / 0x100_0000) (omega arith))
     ∙ ap some_word (joined v)

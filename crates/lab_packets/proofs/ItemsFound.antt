@@ -70,15 +70,18 @@ passed_found b bytes e f = record { items = Passed b ∷ f.items; are = record {
 
 begun_found : (inside rest bytes : List ℕ) → 36 ∷ (inside ++ rest) ≡ bytes → is_open inside ≡ true → gives_up rest ≡ true → Found rest → Found bytes
 begun_found inside rest bytes e o g f = record {
-    items = Begun inside ∷ f.items;
-    are = record { are = (o, ap gives_up f.are.text ∙ g, f.are.are); text = ap (λ t. 36 ∷ (inside ++ t)) f.are.text ∙ e } }
+  items = Begun inside ∷ f.items;
+  are = record { are = (o, ap gives_up f.are.text ∙ g, f.are.are); text = ap (λ t. 36 ∷ (inside ++ t)) f.are.text ∙ e };
+}
 
 frame_found : (front rest bytes : List ℕ) (x y : ℕ) → 36 ∷ (front ++ 35 ∷ x ∷ y ∷ rest) ≡ bytes → are_data front ≡ true → (x == 36) ≡ false → (y == 36) ≡ false → Found rest → Found bytes
 frame_found front rest bytes x y e d ex ey f = record {
-    items = Frame front x y ∷ f.items;
-    are = record {
-      are = ((d, no_dollar_is x ex, no_dollar_is y ey), refl, f.are.are);
-      text = ap (λ t. 36 ∷ t) (append_assoc front (35 ∷ x ∷ y ∷ []) (items_text f.items)) ∙ ap (λ t. 36 ∷ (front ++ 35 ∷ x ∷ y ∷ t)) f.are.text ∙ e } }
+  items = Frame front x y ∷ f.items;
+  are = record {
+    are = ((d, no_dollar_is x ex, no_dollar_is y ey), refl, f.are.are);
+    text = ap (λ t. 36 ∷ t) (append_assoc front (35 ∷ x ∷ y ∷ []) (items_text f.items)) ∙ ap (λ t. 36 ∷ (front ++ 35 ∷ x ∷ y ∷ t)) f.are.text ∙ e;
+  };
+}
 
 -- ---- behind the `#`
 

@@ -9,10 +9,12 @@ use Rattle.lab_packets.specs.declared.frame_place.FramePlace.{FramePlace}
 use Rattle.lab_packets.specs.declared.frame_place.FramePlace.TheVariants.{Between, InData, FirstDigit, SecondDigit}
 use Rattle.lab_packets.specs.declared.heard.Heard.TheVariants.{Nothing, Again, Bad, Packet}
 use Rattle.lab_packets.proofs.Onward.{reached_both, messages_both}
-use Rattle.lab_packets.proofs.FrameLaw.{silent, begin_step}
 
 abbrev held : FramePlace → List ℕ → Bool → Hearing
 held p content long = record { place = p; content = content; is_long = long }
+
+abbrev silent : Hearing → Told
+silent h = record { heard = Nothing; next = h }
 
 no_dollar : (b : ℕ) → is_no_dollar b ≡ true → (b == 36) ≡ false
 no_dollar b h = grind (arith, nat_tests, h)
@@ -22,6 +24,10 @@ abbrev added : List ℕ → Bool → ℕ → Hearing
 added content long b = cond (nat_lt (length content) most_data) (held InData (content ++ b ∷ []) long) (held InData content true)
 
 -- ---- one byte
+
+begin_step : (h : Hearing) → after h 36 ≡ silent begun
+unfolding after
+begin_step h = refl
 
 data_step : (content : List ℕ) (long : Bool) (b : ℕ) → (b == 36) ≡ false → (b == 35) ≡ false → after (held InData content long) b ≡ silent (added content long b)
 unfolding after
@@ -179,7 +185,7 @@ begins h bytes told d = record {
   tells = ap (λ (t : Told). told_message t ++ messages t.next bytes) (begin_step h) ∙ d.tells;
 }
 
-frame_ends : (h : Hearing) (bytes : List ℕ) (x y : ℕ) → are_data bytes ≡ true → is_no_dollar x ≡ true → is_no_dollar y ≡ true → Ends h (item_text (Frame bytes x y)) (item_messages (Frame bytes x y))
+pub frame_ends : (h : Hearing) (bytes : List ℕ) (x y : ℕ) → are_data bytes ≡ true → is_no_dollar x ≡ true → is_no_dollar y ≡ true → Ends h (item_text (Frame bytes x y)) (item_messages (Frame bytes x y))
 frame_ends h bytes x y e ex ey = begins h _ _ (frame_by (nat_le (length bytes) most_data) bytes x y refl e (no_dollar x ex) (no_dollar y ey))
 
 -- ---- a packet that was given up tells nothing
