@@ -1,5 +1,5 @@
 -- Going forward, step by step.
-use Rattle.std.proofs.Common.{◌≡◌, ℕ, zero, suc, ◌+◌, ◌-◌, ◌<◌, ◌≤◌, Bool, true, false, List, [], ◌∷◌, Option, Some, None, refl, sym, ap, ◌∙◌, arith}
+use Rattle.std.proofs.Common.{◌≡◌, ℕ, suc, ◌+◌, ◌-◌, ◌<◌, ◌≤◌, List, [], ◌∷◌, Option, Some, None, refl, sym, ap, ◌∙◌, arith}
 use Rattle.device_model.specs.Meanings.{Meanings}
 use Rattle.hart_memory.specs.Memory.{Memory}
 use Rattle.hart_report.specs.declared.stepped.Stepped.{Stepped}

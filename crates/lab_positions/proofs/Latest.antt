@@ -1,11 +1,10 @@
 -- What is found on the way back is the latest.
-use Rattle.std.proofs.Common.{◌≡◌, ℕ, zero, suc, ◌+◌, ◌-◌, ◌<◌, ◌≤◌, List, Option, Some, None, refl, sym, ap, subst, ◌∙◌, arith}
+use Rattle.std.proofs.Common.{◌≡◌, ℕ, zero, suc, ◌+◌, ◌-◌, ◌<◌, List, Option, Some, None, refl, sym, ap, ◌∙◌, arith}
 use Rattle.device_model.specs.Meanings.{Meanings}
-use Rattle.hart_memory.specs.Memory.{Memory}
 use Rattle.hart_board.specs.declared.event.Event.{Event}
 use Rattle.lab_positions.specs.Position.{Position, next, after}
 use Rattle.lab_positions.specs.Sought.{Search}
-use Rattle.lab_positions.specs.Forward.{Stopped, stopped}
+use Rattle.lab_positions.specs.Forward.{Stopped}
 use Rattle.lab_positions.specs.Backward.{back_reason, found_at, later_or, latest}
 use Rattle.lab_positions.specs.Kinds.{reason_at, IsLatest}
 use Rattle.lab_positions.specs.declared.timing.Timing.{Timing}

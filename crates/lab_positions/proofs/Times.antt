@@ -1,5 +1,5 @@
 -- Positions and places after a step.
-use Rattle.std.proofs.Common.{◌≡◌, ℕ, zero, suc, ◌+◌, ◌-◌, ◌<◌, ◌≤◌, Bool, true, false, List, [], ◌∷◌, ◌++◌, drop, refl, sym, ap, subst, ◌∙◌, arith}
+use Rattle.std.proofs.Common.{◌≡◌, ℕ, zero, suc, ◌+◌, ◌-◌, ◌≤◌, Bool, true, false, List, [], ◌∷◌, ◌++◌, refl, sym, ap, subst, ◌∙◌, arith}
 use Rattle.std.specs.Prelude.{if◌then◌else◌}
 use Rattle.std.specs.List.{All}
 use Rattle.std.proofs.lemmas.List.Elements.{All-push}
@@ -8,7 +8,7 @@ use Rattle.hart_report.specs.declared.stepped.Stepped.{Stepped}
 use Rattle.hart_report.specs.declared.stepped.Stepped.TheVariants.{Retired, Interrupted, Raised, Halted, VectorFault}
 use Rattle.hart_board.specs.State.{State}
 use Rattle.hart_board.specs.Step.{Turn, step}
-use Rattle.hart_board.specs.Event.{EventList, arrived, with_events}
+use Rattle.hart_board.specs.Event.{EventList, arrived}
 use Rattle.hart_board.specs.declared.event.Event.{Event}
 use Rattle.hart_board.proofs.Steps.{no_vector_keeps}
 use Rattle.hart_board.proofs.Shapes.{step_has}

@@ -1,5 +1,5 @@
 -- Going back: to the latest earlier position at which a reason to stop holds.
-use Rattle.std.specs.Prelude.{◌≡◌, ℕ, zero, suc, ◌+◌, ◌-◌, ◌==◌, Bool, true, false, List, [], ◌∷◌, Option, Some, None, min}
+use Rattle.std.specs.Prelude.{ℕ, zero, suc, ◌-◌, ◌==◌, Bool, true, false, List, [], ◌∷◌, Option, Some, None, min}
 use Rattle.device_model.specs.Meanings.{Meanings}
 use Rattle.hart_memory.specs.Memory.{Memory}
 use Rattle.hart_board.specs.declared.event.Event.{Event}

@@ -1,12 +1,11 @@
 -- Going forward: to the first position behind whose step a reason to stop holds.
-use Rattle.std.specs.Prelude.{◌≡◌, ℕ, zero, suc, ◌+◌, ◌-◌, ◌<◌, Bool, true, false, List, [], ◌∷◌, Option, Some, None, min}
+use Rattle.std.specs.Prelude.{ℕ, zero, suc, ◌-◌, Bool, true, false, List, [], ◌∷◌, Option, Some, None, min}
 use Rattle.device_model.specs.Meanings.{Meanings}
 use Rattle.hart_memory.specs.Memory.{Memory}
 use Rattle.hart_report.specs.declared.stepped.Stepped.{Stepped}
 use Rattle.hart_report.specs.declared.stepped.Stepped.TheVariants.{Raised, VectorFault}
-use Rattle.hart_board.specs.Steps.{goes_on}
 use Rattle.hart_board.specs.declared.event.Event.{Event}
-use Rattle.lab_positions.specs.Position.{Position, next, after, told_of}
+use Rattle.lab_positions.specs.Position.{Position, next, told_of}
 use Rattle.lab_positions.specs.Watching.{first_changed}
 use Rattle.lab_positions.specs.Sought.{Search, is_break, is_until}
 use Rattle.lab_positions.specs.declared.timing.Timing.{Timing}

@@ -1,5 +1,5 @@
 -- Where going forward and back stops, said of the positions to which steps lead.
-use Rattle.std.specs.Prelude.{◌≡◌, ◌<◌, ◌≤◌, ℕ, ◌+◌, true, List, Option, Some, None}
+use Rattle.std.specs.Prelude.{◌≡◌, ◌<◌, ℕ, ◌+◌, true, List, Option, Some, None}
 use Rattle.device_model.specs.Meanings.{Meanings}
 use Rattle.hart_report.specs.declared.stepped.Stepped.TheVariants.{VectorFault}
 use Rattle.hart_board.specs.Steps.{goes_on}

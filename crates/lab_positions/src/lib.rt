@@ -12,6 +12,8 @@ mod rungs;
 mod session;
 mod sought;
 mod stop;
+#[cfg(test)]
+mod tests;
 mod timing;
 mod until;
 mod watch;

@@ -1,6 +1,8 @@
 // A board that is stepped forwards and back.
-ghost use Rattle.std.specs.Prelude.{◌≡◌, ◌+◌, ◌^◌, ◌<◌, ◌≤◌, not, ◌==◌, filter, [], IsTrue, IfOk, IfSome, OnOk, OnErr};
+ghost use Rattle.std.specs.Prelude.{◌≡◌, ◌+◌, ◌^◌, ◌<◌, ◌≤◌, not, ◌==◌, ◌↔◌, filter, [], length, IsTrue, IfOk, IfSome, OnOk, OnErr};
 ghost use Rattle.lab_positions.specs.Position.{Position, start};
+ghost use Rattle.std.specs.Bool.{OnTrue, OnFalse};
+ghost use Rattle.lab_positions.specs.declared.sought.TheConstants.{MAX_SOUGHT};
 ghost use Rattle.lab_positions.specs.Sought.{is_break, with_break};
 ghost use Rattle.lab_positions.specs.Forward.{forward};
 ghost use Rattle.lab_positions.specs.Backward.{latest, edge, backward};
@@ -20,6 +22,7 @@ use crate::sought::Sought;
 use crate::stop::Stop;
 use crate::timing::Timing;
 use crate::until::Until;
+use crate::watch::Watch;
 use device_model::Device;
 use hart_board::{Board, Events};
 use hart_words::WantOfMemory;
@@ -277,6 +280,16 @@ impl<D: Device> Session<D> {
         ensures { self.new ≡ record self.old { search = record self.old.search { breaks = filter (λ b. not (b == at)) self.old.search.breaks } } }
     {
         self.sought.clear_break(at);
+    }
+
+    /// Watches these bytes, which are told in this order, in place of those before. `false`: they are
+    /// more than may be.
+    pub fn set_watches(&mut self, watches: &[Watch]) -> bool
+        ensures few { IsTrue result ↔ (length watches.now ≤ MAX_SOUGHT) }
+        ensures set { OnTrue result (self.new ≡ record self.old { search = record self.old.search { watches = watches.now } }) }
+        ensures same { OnFalse result (self.new ≡ self.old) }
+    {
+        self.sought.set_watches(watches)
     }
 
     /// Asks for a count to stop at.

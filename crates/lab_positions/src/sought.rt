@@ -1,5 +1,6 @@
 // What is sought.
-ghost use Rattle.std.specs.Prelude.{◌≡◌, ◌==◌, not, filter, []};
+ghost use Rattle.std.specs.Prelude.{◌≡◌, ◌≤◌, ◌↔◌, ◌==◌, not, filter, [], length, IsTrue};
+ghost use Rattle.std.specs.Bool.{OnTrue, OnFalse};
 ghost use Rattle.lab_positions.specs.Sought.{is_break, with_break};
 ghost use Rattle.lab_positions.specs.declared.until.Until.TheVariants.{Never};
 
@@ -88,5 +89,20 @@ impl Sought {
         ensures { self.new ≡ record self.old { until = until } }
     {
         self.until = until;
+    }
+
+    /// Watches these bytes, which are told in this order, in place of those before. `false`: they are
+    /// more than may be.
+    pub fn set_watches(&mut self, watches: &[Watch]) -> bool
+        ensures few { IsTrue result ↔ (length watches.now ≤ MAX_SOUGHT) }
+        ensures set { OnTrue result (self.new ≡ record self.old { watches = watches.now }) }
+        ensures same { OnFalse result (self.new ≡ self.old) }
+    {
+        let mut list = ArrayVec::new();
+        if let Err(_) = list.try_extend_from_slice(watches) {
+            return false;
+        }
+        self.watches = list;
+        true
     }
 }

@@ -1,4 +1,4 @@
-use Rattle.std.proofs.Common.{◌≡◌, ◌+◌, ◌^◌, ◌<◌, sym, ap, subst, ◌∙◌}
+use Rattle.std.proofs.Common.{◌+◌, ◌^◌, ◌<◌, sym, ap, subst, ◌∙◌}
 use Rattle.hart_board.specs.Step.{Turn, step}
 use Rattle.lab_positions.specs.Position.{next}
 use Rattle.lab_positions.specs.Places.{PlaceState, IsOnTime}

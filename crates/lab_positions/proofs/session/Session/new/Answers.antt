@@ -1,5 +1,5 @@
 use Rattle.std.proofs.Common.{[], ap, ap₂, ◌∙◌}
-use Rattle.lab_positions.specs.Places.{PlaceState, SessionState, IsReached}
+use Rattle.lab_positions.specs.Places.{PlaceState, IsReached}
 use Rattle.lab_positions.specs.declared.until.Until.TheVariants.{Never}
 use Rattle.lab_positions.proofs.Times.{bare_same, reached_base, reached_copy, none_all}
 use Rattle.lab_positions.proofs.session.Session.new.Goals as goal

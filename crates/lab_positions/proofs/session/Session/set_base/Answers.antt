@@ -1,4 +1,4 @@
-use Rattle.std.proofs.Common.{sym, ap, subst, ◌∙◌}
+use Rattle.std.proofs.Common.{sym, subst, ◌∙◌}
 use Rattle.lab_positions.specs.Places.{PlaceState, SessionState, IsOnTime, IsReached}
 use Rattle.lab_positions.proofs.Times.{bare_same, reached_base, none_all}
 use Rattle.lab_positions.proofs.session.Session.set_base.Goals as goal
