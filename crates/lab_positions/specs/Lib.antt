@@ -1,0 +1,9 @@
+pub mod Position
+pub mod Watching
+pub mod Sought
+pub mod Places
+pub mod Forward
+pub mod Backward
+pub mod Looking
+pub mod Changes
+pub mod Kinds
