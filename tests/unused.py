@@ -16,12 +16,6 @@ ALLOWED = {}
 LATER = "goes with the next change of its crate"
 for place, names in {
     ("board_outside", "specs.Puts"): ("CountsPut",),
-    ("chain_certify", "proofs.Accesses"): ("answer_small",),
-    ("chain_certify", "proofs.Found"): ("sides_in_order",),
-    ("chain_certify", "proofs.Loops"): ("nowhere",),
-    ("chain_certify", "proofs.Told"): ("no_word",),
-    ("chain_certify", "specs.Soundness"): ("Begins",),
-    ("chain_certify", "specs.Tables"): ("by_use", "use_of", "uses_from"),
     ("hart_board", "proofs.KeptStays"): ("arrived_leaves", "events_leave"),
     ("hart_board", "proofs.KnownLemmas"): ("at_by", "below_or_at", "blank_next", "kept_of_other", "one_more"),
     ("hart_memory", "proofs.NumberLemmas"): ("put_same", "slice_index-with_number_in"),

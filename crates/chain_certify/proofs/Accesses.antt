@@ -120,9 +120,6 @@ IsSmall (Stack k) = k < 2 ^ 32
 IsSmall _ = Unit {0}
 
 -- ---- what a load gives from memory
-answer_small : (p : Place) → p ≡ Elsewhere → is_in_memory p ≡ true → ⊥
-answer_small p e i = false≢true (sym (ap is_in_memory e) ∙ i)
-
 small_by : (m : Meanings) (t : State) (at width : ℕ) (aligned : Bool) (p : Place) (found : ℕ × State) → AreBytes t.memory.rom → AreBytes t.memory.ram → is_in_memory p ≡ true → load_at m t at width aligned p ≡ Ok found → found.0 < 256 ^ width
 small_by m t at width false p found r a i e = absurd cc
 small_by m t at width true (InRom k) found r a i e = let is : (number_at t.memory.rom k width, t) ≡ found = cc in subst (λ x. x.0 < 256 ^ width) is (number_at-lt t.memory.rom k width r)

@@ -53,8 +53,3 @@ module _ (code : List ℕ) (region : Region) (at : ℕ) (f : Flow) where
       ∙ (ap (looked_fetched code region at f) h.1
       ∙ (ap (λ b. looked_ins code region at f found.1 (decoded b found.1)) first
       ∙ ap (λ l. looked_ins code region at f l (decoded bits l)) second))
-
--- both sides of a branch, one after the other
-pub sides_in_order : (a b : Option (Value × Value)) (far near : ℕ) (f : Flow) (rs1 rs2 : ℕ) → sided a far f rs1 rs2 [] ++ sided b near f rs1 rs2 [] ≡ sided a far f rs1 rs2 (sided b near f rs1 rs2 [])
-sides_in_order None b far near f rs1 rs2 = refl
-sides_in_order (Some both) b far near f rs1 rs2 = refl

@@ -18,5 +18,4 @@ pub mod Moves
 pub mod Bounds
 pub mod Starts
 pub mod Closed
-pub mod Told
 pub mod Loads

@@ -140,7 +140,3 @@ nothing_covers nodes i next l = sym (ap (λ (o : Option Node). is_covering o nex
 
 pub node_covers : (nodes : List Node) (i : ℕ) (d : Node) (next : Next) → i < length nodes → is_covering (Some (get_or nodes i d)) next ≡ is_covering (node_at nodes i) next
 node_covers nodes i d next l = sym (ap (λ (o : Option Node). is_covering o next) (node_is nodes i d l))
-
--- a node that stands nowhere, for what is read at a place that is there
-abbrev pub nowhere : Node
-nowhere = record { at = 0; flow = record { values = []; words = [] }; hints = [] }

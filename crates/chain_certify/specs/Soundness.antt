@@ -12,7 +12,8 @@ use Rattle.chain_moves.specs.Moves.{move}
 use Rattle.chain_moves.specs.declared.broken.Broken.{Broken}
 use Rattle.chain_lint.specs.Bound.{bound}
 use Rattle.chain_lint.specs.declared.uses.Use.{Use}
-pub use Rattle.chain_lint.specs.Soundness.{HasCode, IsRegion, Premises, IsAfter, handler_of, IsOther, Lists, Begins, outermost}
+pub use Rattle.chain_lint.specs.Soundness.{HasCode, IsRegion, Premises, IsAfter, handler_of, IsOther, Lists, outermost}
+use Rattle.chain_lint.specs.Soundness.{Begins}
 use Rattle.chain_certify.specs.Check.{Node, checked}
 use Rattle.chain_flow.specs.declared.region.Region.{Region}
 

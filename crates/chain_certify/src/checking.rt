@@ -5,7 +5,7 @@ ghost use Rattle.chain_certify.specs.Rules.{Next as NextView};
 ghost use Rattle.chain_certify.specs.Check.{node_at, is_covering as is_covering_of, are_covered as are_covered_of, is_passed as is_passed_of, is_good as is_good_of, are_good as are_good_of, depth_of as depth_of_value, deepest as deepest_of, is_certificate as is_certificate_of, checked as checked_of};
 
 use crate::flow_state::Flow;
-use crate::look::{Look, Next};
+use crate::looked::{Look, Next};
 use crate::looking::look;
 use crate::node::Node;
 use crate::rules::is_bad_pointer;

@@ -7,7 +7,7 @@ ghost use Rattle.chain_certify.specs.Sides.{side as side_of};
 ghost use Rattle.chain_certify.specs.Rules.{to as to_one, sided, jumped as jumped_to, goes_to, broken_rule, looked_by, looked};
 
 use crate::flow_state::Flow;
-use crate::look::{Look, Next};
+use crate::looked::{Look, Next};
 use crate::rules::{is_bad_pointer, is_changed, is_return, rule_before};
 use crate::sides::side;
 use crate::transfer::change;

@@ -52,9 +52,6 @@ module _ (m : Meanings) (timing : Timing) (es : List Event) where
       let same : t ≡ p.stand.board = ap (λ (turn : Turn). turn.state) e ∙ no_vector_keeps m p.stand.board id there in
       ap (λ b. record { steps = p.steps; fresh = p.fresh; stand = record { count = p.stand.count; board = b } }) same ∙ sym (next_missing p id there)
 
-  pub steps_next : (p q : Position) → q ≡ next m timing es p → ((id : ℕ) → told_of m p ≡ VectorFault id → ⊥) → q.steps ≡ p.steps + 1
-  steps_next p q e other = ap (λ x. x.steps) (e ∙ next_made p (step m p.stand.board) refl other)
-
   from_by : (base p : Position) (told : Stepped) (made : Position) → made.steps ≡ p.steps + 1 → IsFrom m timing es base p → unless_missing told p made ≡ next m timing es p → IsFrom m timing es base (unless_missing told p made)
   from_by base p (VectorFault id) made s from e = from
   from_by base p (Retired pc bits length) made s from e = made_from base p made s from e

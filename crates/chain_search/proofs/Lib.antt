@@ -1,0 +1,3 @@
+pub mod Told
+pub mod Bounded
+pub mod Sound
