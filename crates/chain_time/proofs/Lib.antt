@@ -13,3 +13,4 @@ pub mod Downward
 pub mod Accepts
 pub mod Fusing
 pub mod Lows
+pub mod TripleWords

@@ -7,4 +7,5 @@ pub mod Response
 pub mod Ways
 pub mod Table
 pub mod Text
+pub mod Triples
 pub mod Looping

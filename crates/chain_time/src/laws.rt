@@ -1,10 +1,13 @@
-// How long services take, and how long an input waits, for every device.
+// How long services take, and how long an input waits, for every device; and which words tell of it.
+ghost use Rattle.std.specs.Prelude.{◌≡◌, ◌↔◌, ℕ, List, Some};
 ghost use Rattle.chain_time.specs.Counts.{CountsAreSound};
 ghost use Rattle.chain_time.specs.Looping.{LoopingBurstIsBounded};
 ghost use Rattle.chain_time.specs.Own.{PathIsBound};
 ghost use Rattle.chain_time.specs.Response.{ResponseIsBounded, LatencyIsBounded, BurstIsBounded};
 ghost use Rattle.chain_time.specs.Stretch.{StretchIsTimed, WaitIsTimed, BurstIsTimed};
+ghost use Rattle.chain_time.specs.Triples.{SpellsTriples, triples_of};
 ghost use Rattle.chain_time.specs.Waiting.{NoInversion, EntersAtOnce, TopBegins, EnterIsShort};
+ghost use Rattle.chain_time.specs.declared.triple.Triple.{Triple};
 
 use device_model::Device;
 
@@ -65,4 +68,10 @@ pub fn a_table_bounds_the_times<D: Device>()
 /// first one, and the Leave and the Enter between them are fused: so the foreground stands still for less.
 pub fn looping_saves_time<D: Device>()
     ensures { LoopingBurstIsBounded D.means }
+{}
+
+/// Triples are read of a word exactly where it spells them: each an input, its level and how often it comes,
+/// in decimal without leading zeros, with a colon between two numbers and a comma between two triples.
+pub fn words_spell_triples()
+    ensures { (word : List ℕ) (qs : List Triple) → (triples_of word ≡ Some qs) ↔ SpellsTriples word qs }
 {}

@@ -1,6 +1,7 @@
 use super::*;
 use chain_flow::{LintWhy, Region};
 use hart_memory::{Image, place_of};
+use lab_names::Names;
 use std::alloc::Global;
 use std::process::Abort;
 use std::test::Fail;
@@ -79,7 +80,7 @@ fn times(
 fn writes(rt: &impl Abort, alloc: Global, triples: &[Triple], lines: &str) -> Result<(), Fail> {
     match times(rt, alloc, triples)? {
         Ok(times) => {
-            let text = text_of_times(alloc, &times)?;
+            let text = text_of_times(alloc, &Names::new(alloc), &times)?;
             assert!(rt; text.bytes() == lines.as_bytes(), "{lines}");
         }
         Err(_) => assert!(rt; false, "{lines}"),
@@ -93,14 +94,14 @@ fn two_handlers(rt: HostRuntime) -> Result<(), Fail> {
         &rt,
         rt.alloc(),
         &[triple(3, 255, 1), triple(5, 127, 1)],
-        "time 3 00000200 path 5 latency 14 response 35\ntime 5 00000214 path 5 latency 49 response 70\nburst 70\n",
+        "time 3 00000200 path 5 latency 14 response 35\ntime 5 00000214 path 5 latency 49 response 70\nburst 70\nlooping burst 70\n",
     )?;
     // each comes three times
     writes(
         &rt,
         rt.alloc(),
         &[triple(3, 255, 3), triple(5, 127, 3)],
-        "time 3 00000200 path 5 latency 84 response 105\ntime 5 00000214 path 5 latency 189 response 210\nburst 210\n",
+        "time 3 00000200 path 5 latency 84 response 105\ntime 5 00000214 path 5 latency 189 response 210\nburst 210\nlooping burst 164\n",
     )
 }
 
@@ -110,7 +111,7 @@ fn three_handlers(rt: HostRuntime) -> Result<(), Fail> {
         &rt,
         rt.alloc(),
         &[triple(3, 255, 1), triple(5, 127, 1), triple(7, 191, 1)],
-        "time 3 00000200 path 5 latency 14 response 35\ntime 5 00000214 path 5 latency 89 response 110\ntime 7 00000228 path 10 latency 49 response 75\nburst 110\n",
+        "time 3 00000200 path 5 latency 14 response 35\ntime 5 00000214 path 5 latency 89 response 110\ntime 7 00000228 path 10 latency 49 response 75\nburst 110\nlooping burst 110\n",
     )
 }
 
@@ -120,7 +121,7 @@ fn a_long_handler(rt: HostRuntime) -> Result<(), Fail> {
         &rt,
         rt.alloc(),
         &[triple(9, 1, 1)],
-        "time 9 00001000 path 1024 latency 14 response 1054\nburst 1054\n",
+        "time 9 00001000 path 1024 latency 14 response 1054\nburst 1054\nlooping burst 1054\n",
     )
 }
 
@@ -150,7 +151,7 @@ fn stands(rt: &impl Abort, alloc: Global, triples: &[Triple], steps: u64) -> Res
     Ok(())
 }
 
-// 164 is the longest that 1,000 scenarios of two inputs gave, and 234 that of three.
+// 164 is the longest that random scenarios of two inputs gave, and 257 that of three.
 #[test]
 fn bursts_of_the_looping_dispatcher(rt: HostRuntime) -> Result<(), Fail> {
     stands(

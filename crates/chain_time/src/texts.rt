@@ -1,12 +1,13 @@
 // The lines that tell times.
 ghost use Rattle.std.specs.Prelude.{◌≡◌, ◌≤◌, ◌^◌, ◌<◌, ◌++◌, IfOk, OnOk};
-ghost use Rattle.chain_time.specs.Text.{figures as figures_text, time_line, burst_line, times_text, fault_line as fault_text};
+ghost use Rattle.chain_time.specs.Text.{figures as figures_text, called, time_line, burst_line, looping_line, times_text, fault_line as fault_text};
 
 use crate::table_fault::TableFault;
 use crate::timed::Timed;
 use crate::times::Times;
 use chain_lint::{TableBound, table_line};
 use hart_words::{Line, Text, WantOfMemory};
+use lab_names::Names;
 use std::alloc::Global;
 
 // The figures of an input.
@@ -25,49 +26,69 @@ fn figures(row: &Timed, latency: u64, response: u64) -> Line
     line
 }
 
-/// Adds the line of an input, whose handler is called so. The name may be longer than a `Line`.
+// Adds what a handler is called. A name may be longer than a `Line`.
+fn put_called(text: &mut Text, names: &Names, handler: u32) -> Result<(), WantOfMemory>
+    ensures { OnOk result (text.new ≡ text.old ++ called names.now handler) }
+{
+    match names.at(handler) {
+        Some(name) => text.push_bytes(name),
+        None => {
+            let mut line = Line::new();
+            line.put_hex8(handler);
+            text.push_bytes(line.bytes())
+        }
+    }
+}
+
+// Adds the line of an input.
 #[tactic(auto, unfolding(crate::specs::Text::time_line))]
-pub fn put_time(
-    text: &mut Text,
-    times: &Times,
-    row: &Timed,
-    name: &[u8],
-) -> Result<(), WantOfMemory>
-    ensures { OnOk result (text.new ≡ text.old ++ time_line times.now row.now name.now) }
+fn put_time(text: &mut Text, names: &Names, times: &Times, row: &Timed) -> Result<(), WantOfMemory>
+    ensures { OnOk result (text.new ≡ text.old ++ time_line names.now times.now row.now) }
 {
     let mut line = Line::new();
     line.put_text("time ");
     line.put_dec(u64::from(row.input));
     line.put_text(" ");
     text.push_bytes(line.bytes())?;
-    text.push_bytes(name)?;
+    put_called(text, names, row.handler)?;
     let figures = figures(row, times.latency(row), times.response(row));
     text.push_bytes(figures.bytes())
 }
 
-/// Adds the line of the burst.
+// The line of the burst.
 #[tactic(auto, unfolding(crate::specs::Text::burst_line))]
-pub fn put_burst(text: &mut Text, times: &Times) -> Result<(), WantOfMemory>
-    ensures { OnOk result (text.new ≡ text.old ++ burst_line times.now) }
+fn burst_of(times: &Times) -> Line
+    ensures { result ≡ burst_line times.now }
 {
     let mut line = Line::new();
     line.put_text("burst ");
     line.put_dec(times.burst());
     line.put_text("\n");
-    text.push_bytes(line.bytes())
+    line
 }
 
-/// All lines of a table, where a handler is called by its address.
-pub fn text_of_times(alloc: Global, times: &Times) -> Result<Text, WantOfMemory>
-    ensures { IfOk result (λ text. text ≡ times_text times.now) }
+// And the one under the looping dispatcher.
+#[tactic(auto, unfolding(crate::specs::Text::looping_line))]
+fn looping_of(times: &Times) -> Line
+    ensures { result ≡ looping_line times.now }
+{
+    let mut line = Line::new();
+    line.put_text("looping burst ");
+    line.put_dec(times.looping_burst());
+    line.put_text("\n");
+    line
+}
+
+/// All lines of a table. A handler is called by the name of its address, where that has one.
+pub fn text_of_times(alloc: Global, names: &Names, times: &Times) -> Result<Text, WantOfMemory>
+    ensures { IfOk result (λ text. text ≡ times_text names.now times.now) }
 {
     let mut text = Text::new(alloc);
     for row in times.rows() {
-        let mut name = Line::new();
-        name.put_hex8(row.handler);
-        put_time(&mut text, times, row, name.bytes())?;
+        put_time(&mut text, names, times, row)?;
     }
-    put_burst(&mut text, times)?;
+    text.push_bytes(burst_of(times).bytes())?;
+    text.push_bytes(looping_of(times).bytes())?;
     Ok(text)
 }
 
