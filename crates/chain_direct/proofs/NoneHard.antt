@@ -20,20 +20,23 @@ use Rattle.hart_board.specs.declared.event.Event.{Event}
 use Rattle.chain_moves.specs.Slot.{back}
 use Rattle.chain_moves.specs.Servicing.{Live, Servicing, marks}
 use Rattle.chain_moves.specs.Tests.{first_broken, enter_tests, first_tests, second_tests, instruction_tests, access_tests, return_tests}
-use Rattle.chain_moves.specs.Enter.{is_enter_due, new_frame, table_address}
-use Rattle.chain_moves.specs.Body.{hart, with_hart, is_long_at, dead_after, performed_by, decoded_by, fetched_by, body}
-use Rattle.chain_moves.specs.Machine.{When, Before, After, Moved, Makes, Breaks, Ends, unless_broken}
-use Rattle.chain_moves.specs.Moves.{move, move_unless_halted, move_by, leave_or_body, halted_with}
+use Rattle.chain_moves.specs.Enter.{is_enter_due, new_frame, table_address, entered}
+use Rattle.chain_moves.specs.Body.{hart, with_hart, is_long_at, dead_after, retired, performed_by, decoded_by, fetched_by, body}
+use Rattle.chain_moves.specs.Machine.{When, Before, Within, After, Moved, Makes, Breaks, Ends, unless_broken}
+use Rattle.chain_moves.specs.Moves.{move, move_unless_halted, move_by, leave_or_body, halted_with, enter}
+use Rattle.chain_moves.specs.Start.{begun}
 use Rattle.chain_moves.specs.declared.broken.Broken.{Broken}
-use Rattle.chain_moves.specs.declared.broken.Broken.TheVariants.{HardVectored}
+use Rattle.chain_moves.specs.declared.broken.Broken.TheVariants.{HardVectored, CsrTouched}
 use Rattle.chain_moves.specs.declared.dispatcher.Dispatcher.{Dispatcher}
 use Rattle.chain_moves.specs.declared.moves.Move.{Move}
+use Rattle.chain_moves.specs.declared.moves.Move.TheVariants.{Enter}
 use Rattle.chain_core.specs.End.{end_at, EndsAs}
 use Rattle.chain_core.specs.declared.chain_end.ChainEnd.{ChainEnd}
 use Rattle.chain_core.specs.declared.chain_end.ChainEnd.TheVariants.{Broken as BrokenOff}
 use Rattle.chain_core.proofs.Ends.{ends_so}
+use Rattle.chain_direct.specs.Kind.{Kind}
 use Rattle.chain_direct.specs.Directed.{Direct, Directed}
-use Rattle.chain_direct.specs.DirectBody.{direct_instruction_tests, ended_tests, direct_performed, direct_made, direct_decoded, direct_fetched, direct_body}
+use Rattle.chain_direct.specs.DirectBody.{direct_instruction_tests, ended_tests, direct_performed, direct_ended, direct_made, direct_decoded, direct_fetched, direct_body}
 use Rattle.chain_direct.specs.DirectMoves.{begin_tests, begin, with_move, entering_by, moved_alone, moved_by, direct_move, direct_machine}
 
 -- ---- tests

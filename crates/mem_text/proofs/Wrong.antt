@@ -1,8 +1,8 @@
 -- What is refused is the first byte with which something is wrong.
-use Rattle.std.proofs.Common.{◌≡◌, ℕ, ◌+◌, ◌⊎◌, inl, inr, List, [], ◌∷◌, ◌++◌, length, Bool, true, false, Option, Some, None, Result, Ok, Err, refl, sym, ap, subst, ◌∙◌, append_assoc, arith}
-use Rattle.std.specs.Prelude.{IfErr}
+use Rattle.std.proofs.Common.{◌≡◌, ℕ, ◌+◌, ◌≤◌, ◌⊎◌, inl, inr, List, [], ◌∷◌, ◌++◌, length, Bool, true, false, Option, Some, None, Result, Ok, Err, refl, sym, ap, subst, ◌∙◌, append_assoc, arith}
+use Rattle.std.specs.Prelude.{IfErr, slice_index}
 use Rattle.hart_memory.specs.Place.{holds}
-use Rattle.hart_memory.specs.Image.{ImageView, meets_any}
+use Rattle.hart_memory.specs.Image.{ImageView, AreSound, meets_any}
 use Rattle.mem_text.specs.Bytes.{is_hex, kind_of}
 use Rattle.mem_text.specs.Items.{Item, White, LineRemark, BlockRemark, AddressOf, NumberOf, item_text, items_text, AreItems, IsDigits, may_precede, digits_after, IsMemoryText}
 use Rattle.mem_text.specs.Moves.{longer_by, longer_address, longer_number, behind_digits, between, after_slash, in_line, in_block, after_star, after_at, move_of}
@@ -10,7 +10,7 @@ use Rattle.mem_text.specs.Bytes.{digit_of}
 use Rattle.mem_text.specs.Laying.{Laying, nothing_laid, whole_image, moved_to, with_byte, is_full, why_by, why_not}
 use Rattle.mem_text.specs.Reading.{Fault, State, fresh, on_with, begun, made, step, reads, whole, ended, ended_in, read_text}
 use Rattle.mem_text.specs.Standing.{Gives}
-use Rattle.mem_text.specs.FirstWrong.{laid, BeginsText, BeginsItems, IsMisplaced, IsWrongByte, StopsAt, IsFirstWrong, RefusesFirst}
+use Rattle.mem_text.specs.FirstWrong.{laid, BeginsText, BeginsItems, IsMisplaced, IsWrongByte, StopsAt, IsCutShort, IsFirstWrong, RefusesFirst}
 use Rattle.mem_text.specs.declared.mem_why.MemWhy.{MemWhy}
 use Rattle.mem_text.specs.declared.mem_why.MemWhy.TheVariants.{BadByte, TooMany, OutsideMemory, Overlap, Truncated}
 use Rattle.mem_text.specs.declared.mem_error.MemError.{MemError}
@@ -20,7 +20,7 @@ use Rattle.mem_text.specs.declared.moves.Move.TheVariants.{Go, Close, Begin, Bad
 use Rattle.mem_text.specs.declared.token.Token.{Token}
 use Rattle.mem_text.specs.declared.token.Token.TheVariants.{Between, AfterSlash, LineComment, BlockComment, AfterStar, AfterAt, Address, Number}
 use Rattle.mem_text.specs.declared.byte_kind.ByteKind.{ByteKind}
-use Rattle.mem_text.specs.declared.byte_kind.ByteKind.TheVariants.{Digit, LineFeed, Slash, Star, At, Underscore}
+use Rattle.mem_text.specs.declared.byte_kind.ByteKind.TheVariants.{Digit, LineFeed, Blank, Slash, Star, At, Underscore, Other}
 use Rattle.mem_text.proofs.ByteKinds.{fact, at_kind, feed_kind}
 use Rattle.mem_text.proofs.Onward.{reads-append, whole-append, whole-reads}
 use Rattle.mem_text.proofs.Forward.{is_text}

@@ -1,5 +1,5 @@
 -- The first byte of a text that is no memory text with which something is wrong.
-use Rattle.std.specs.Prelude.{◌≡◌, ℕ, List, [], ◌∷◌, ◌++◌, length, true, Some}
+use Rattle.std.specs.Prelude.{◌≡◌, ℕ, List, [], ◌∷◌, ◌++◌, length, true, Option, Some}
 use Rattle.hart_memory.specs.Image.{ImageView}
 use Rattle.mem_text.specs.Bytes.{is_hex}
 use Rattle.mem_text.specs.Items.{Item, White, LineRemark, BlockRemark, AddressOf, NumberOf, items_text, AreItems, digits_after, IsMemoryText}
