@@ -1,0 +1,4 @@
+mod InShape
+mod Ended
+mod Followed
+mod Asked
