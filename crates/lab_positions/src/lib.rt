@@ -12,8 +12,6 @@ mod rungs;
 mod session;
 mod sought;
 mod stop;
-#[cfg(test)]
-mod tests;
 mod timing;
 mod until;
 mod watch;
